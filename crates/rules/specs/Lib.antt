@@ -1,0 +1,13 @@
+pub mod Bytes
+pub mod Checks
+pub mod Operators
+pub mod Recipe
+pub mod Policy
+pub mod Memory
+pub mod Steps
+pub mod Run
+pub mod Ends
+pub mod Judged
+pub mod Accepted
+pub mod Views
+pub mod Examples
