@@ -107,11 +107,11 @@ module _ {P : Policy} {W : Viewer P} where
   alike-set (cons b s) (suc i) a = cons b (alike-set s i a)
 
   -- a hidden place is written in one
-  pub alike-write : {m k : Memory} {p : Place} → Alike W m k → (i : ℕ) → High W (tagOf (placeAt m i)) → High W (tagOf p)
+  pub alike-write : {m k : Memory} → Alike W m k → (i : ℕ) (p : Place) → High W (tagOf (placeAt m i)) → High W (tagOf p)
       → Alike W (write m i p) k
-  alike-write nil i h j = nil
-  alike-write (cons b s) zero h j = cons (apart j (high-across b h)) s
-  alike-write (cons b s) (suc i) h j = cons b (alike-write s i h j)
+  alike-write nil i p h j = nil
+  alike-write (cons b s) zero p h j = cons (apart j (high-across b h)) s
+  alike-write (cons b s) (suc i) p h j = cons b (alike-write s i p h j)
 
   -- ---- evaluation
 

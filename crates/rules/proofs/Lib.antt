@@ -3,3 +3,8 @@ pub mod Examples
 pub mod Tags
 pub mod Agree
 pub mod Records
+pub mod Pairs
+pub mod Acts
+pub mod Performs
+pub mod Growth
+pub mod Secrecy

@@ -1,7 +1,8 @@
 -- Tests and what they say. Assumes nothing.
-use Prim.Native.Nat.{ℕ}
+use Prim.Native.Nat.{ℕ, zero, suc}
 use mathlib.Core.Path.{_≡_, refl}
 use mathlib.Core.Bool.{Bool, true, false, _&&_}
+use Rattle.rules.specs.Steps.{test}
 
 pub and-left : (a b : Bool) → (a && b) ≡ true → a ≡ true
 and-left true b e = refl
@@ -18,3 +19,14 @@ and-both e f = rw (e, f)
 pub fails : (b : Bool) → (b ≡ true → b ≡ false) → b ≡ false
 fails true f = f refl
 fails false f = refl
+
+-- what holds of both cases holds of the one that a value picks
+pub picked : {A : Type 0} (C : A → Type 0) (v : ℕ) {x y : A} → C x → C y → C (test v x y)
+unfolding test
+picked C zero f g = g
+picked C (suc v) f g = f
+
+pub both-picked : {A : Type 0} (C : A → A → Type 0) (v : ℕ) {x y x′ y′ : A} → C x y → C x′ y′ → C (test v x x′) (test v y y′)
+unfolding test
+both-picked C zero f g = g
+both-picked C (suc v) f g = f
