@@ -3,7 +3,7 @@ use mathlib.Core.Path.{_≡_, refl}
 use mathlib.Core.List.{map}
 use Rattle.words.specs.Word.{int, word, truth, negated, denied, absolute, sum, difference, product, quotient, remainder, less, lessEqual, equal, notEqual}
 use Rattle.rules.specs.Bytes.{halfBytes, wholeBytes}
-use Rattle.rules.specs.Checks.{require, _andThen_, upTo, every}
+use Rattle.rules.specs.Checks.{_and_, require, _andThen_, upTo, every}
 use Rattle.rules.specs.Operators.{unary, binary, divides}
 use Rattle.rules.specs.Recipe.{exprIf, stmtIf, unaryExpr, binaryExpr, exprOf, stmtOf, expr, stmt, markOk, zerosOk, countsOk, exprOk, spreadBy, spreadWithin, stmtOk, checkRecipe, portOk, checkPorts}
 use Rattle.rules.specs.Policy.{under, policyHeaderOk, lawAt, lawsOk, checkPolicy}
@@ -15,7 +15,7 @@ use Rattle.rules.specs.Judged.{writtenBack, checks, decided, judged, hos
 use Rattle.rules.specs.Examples.{twoTags, countdown, table, aConstant, aVariable, aBinary, aSkip, aStatement, anEmit, guess, say, reckon, learn, after, chooser, doubled, answerOf, answer, machineSays, benchRows, directedRows, hostedCountdown, hostedAnswer}
 
 pub examples : (map machineSays benchRows ≡ map answer benchRows) × (map machineSays directedRows ≡ map answer directedRows) × (hostedCountdown ≡ hostedAnswer)
-unfolding int word truth negated denied absolute sum difference product quotient remainder less lessEqual equal notEqual halfBytes wholeBytes require _andThen_ upTo every unary binary divides exprIf stmtIf unaryExpr binaryExpr exprOf stmtOf expr stmt markOk zerosOk countsOk exprOk spreadBy spreadWithin stmtOk checkRecipe portOk checkPorts under policyHeaderOk lawAt lawsOk checkPolicy valueOf tagOf places placeBytes checkMemory recordBytes given valueWithin test allow check follow stopNumber refusalNumber refusalPlace endNumber endPlace writtenBack checks decided judged hostBudget reportBytes withReport hosted twoTags countdown table aConstant aVariable aBinary aSkip aStatement anEmit guess say reckon learn after chooser doubled answerOf benchRows directedRows hostedCountdown hostedAnswer
+unfolding int word truth negated denied absolute sum difference product quotient remainder less lessEqual equal notEqual halfBytes wholeBytes _and_ require _andThen_ upTo every unary binary divides exprIf stmtIf unaryExpr binaryExpr exprOf stmtOf expr stmt markOk zerosOk countsOk exprOk spreadBy spreadWithin stmtOk checkRecipe portOk checkPorts under policyHeaderOk lawAt lawsOk checkPolicy valueOf tagOf places placeBytes checkMemory recordBytes given valueWithin test allow check follow stopNumber refusalNumber refusalPlace endNumber endPlace writtenBack checks decided judged hostBudget reportBytes withReport hosted twoTags countdown table aConstant aVariable aBinary aSkip aStatement anEmit guess say reckon learn after chooser doubled answerOf benchRows directedRows hostedCountdown hostedAnswer
 examples = (refl, refl, refl)
 
 pub bench-examples : map machineSays benchRows ≡ map answer benchRows

@@ -8,3 +8,5 @@ pub mod Acts
 pub mod Performs
 pub mod Growth
 pub mod Secrecy
+pub mod Checks
+pub mod Accepts

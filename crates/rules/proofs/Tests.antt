@@ -1,18 +1,22 @@
 -- Tests and what they say. Assumes nothing.
 use Prim.Native.Nat.{ℕ, zero, suc}
 use mathlib.Core.Path.{_≡_, refl}
-use mathlib.Core.Bool.{Bool, true, false, _&&_}
+use mathlib.Core.Bool.{Bool, true, false}
+use Rattle.rules.specs.Checks.{_and_}
 use Rattle.rules.specs.Steps.{test}
 
-pub and-left : (a b : Bool) → (a && b) ≡ true → a ≡ true
+pub and-left : (a b : Bool) → (a and b) ≡ true → a ≡ true
+unfolding _and_
 and-left true b e = refl
 and-left false b e = e
 
-pub and-right : (a b : Bool) → (a && b) ≡ true → b ≡ true
+pub and-right : (a b : Bool) → (a and b) ≡ true → b ≡ true
+unfolding _and_
 and-right true b e = e
 and-right false b e = cc
 
-pub and-both : {a b : Bool} → a ≡ true → b ≡ true → (a && b) ≡ true
+pub and-both : {a b : Bool} → a ≡ true → b ≡ true → (a and b) ≡ true
+unfolding _and_
 and-both e f = rw (e, f)
 
 -- a test that cannot pass fails

@@ -1,9 +1,14 @@
 -- Checks one after the other: the first that fails decides. Assumes nothing.
 use Prim.Native.Nat.{ℕ, zero, suc}
-use mathlib.Core.Bool.{Bool, true, false, _&&_}
+use mathlib.Core.Bool.{Bool, true, false}
 use Rattle.rules.specs.declared.Refusal.{Refusal}
 use Rattle.rules.specs.declared.Checked.{Checked}
 use Rattle.rules.specs.declared.Checked.the-variants.{Passed, Failed}
+
+infixl 40 _and_
+unfoldable pub _and_ : Bool → Bool → Bool
+true and b = b
+false and b = false
 
 unfoldable pub require : Bool → Refusal → Checked
 require true x = Passed
@@ -22,4 +27,4 @@ upTo (suc n) f = upTo n f andThen f n
 -- a test that passes for each number below n
 unfoldable pub every : ℕ → (ℕ → Bool) → Bool
 every zero f = true
-every (suc n) f = every n f && f n
+every (suc n) f = every n f and f n

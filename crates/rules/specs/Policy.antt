@@ -1,13 +1,13 @@
 -- The policy table: how its bytes are read, its check by itself (23 to 25), and the house policy. Assumes nothing.
 use Prim.Native.Nat.{ℕ, _+_, _*_, _/_, _%_, max}
-use mathlib.Core.Bool.{Bool, true, false, _&&_}
+use mathlib.Core.Bool.{Bool, true, false}
 use mathlib.Core.List.{List, [], _∷_, _++_}
 use lib.Dec.{leb, ltb, eqb}
 use lib.ListN.{length}
 use Rattle.rules.specs.declared.Refusal.the-variants.{PolicyHeader, PolicyEntry, PolicyLaw}
 use Rattle.rules.specs.declared.Checked.{Checked}
 use Rattle.rules.specs.Bytes.{byte, half}
-use Rattle.rules.specs.Checks.{require, _andThen_, upTo, every}
+use Rattle.rules.specs.Checks.{_and_, require, _andThen_, upTo, every}
 
 pub record Policy : Type 0 where
   pub tags : ℕ
@@ -33,9 +33,9 @@ policyOf p =
 
 unfoldable pub policyHeaderOk : List ℕ → Bool
 policyHeaderOk p =
-    eqb (byte p 0) 0x52 && eqb (byte p 1) 0x4A && eqb (byte p 2) 0x50 && eqb (half p 3) 1 && eqb (byte p 5) 0
-    && leb 1 (byte p 6) && leb (byte p 6) 16 && leb (byte p 7) 16
-    && eqb (length p) (8 + byte p 6 * byte p 6 + byte p 7)
+    eqb (byte p 0) 0x52 and eqb (byte p 1) 0x4A and eqb (byte p 2) 0x50 and eqb (half p 3) 1 and eqb (byte p 5) 0
+    and leb 1 (byte p 6) and leb (byte p 6) 16 and leb (byte p 7) 16
+    and eqb (length p) (8 + byte p 6 * byte p 6 + byte p 7)
 
 -- the joins and then the clearances, from byte 8 on
 abbrev pub checkEntry : List ℕ → ℕ → Checked
@@ -44,8 +44,8 @@ checkEntry p i = require (ltb (byte p (8 + i)) (byte p 6)) (PolicyEntry (8 + i))
 -- join is commutative, associative, and gives t for (t,t) and for (0,t)
 unfoldable pub lawAt : Policy → (t u w : ℕ) → Bool
 lawAt P t u w =
-    eqb (P .join t u) (P .join u t) && eqb (P .join (P .join t u) w) (P .join t (P .join u w))
-    && eqb (P .join t t) t && eqb (P .join 0 t) t
+    eqb (P .join t u) (P .join u t) and eqb (P .join (P .join t u) w) (P .join t (P .join u w))
+    and eqb (P .join t t) t and eqb (P .join 0 t) t
 
 unfoldable pub lawsOk : Policy → Bool
 lawsOk P = every (P .tags) λ t. every (P .tags) λ u. every (P .tags) λ w. lawAt P t u w

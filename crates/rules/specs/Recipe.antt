@@ -1,6 +1,6 @@
 -- The recipe table: how its bytes are read, and its check by itself (16 to 22). Assumes nothing.
 use Prim.Native.Nat.{ℕ, zero, suc, _+_, _*_}
-use mathlib.Core.Bool.{Bool, true, false, _&&_}
+use mathlib.Core.Bool.{Bool, true, false}
 use mathlib.Core.List.{List, [], _∷_}
 use lib.Dec.{leb, ltb, eqb}
 use lib.ListN.{length, getD}
@@ -13,7 +13,7 @@ use Rattle.rules.specs.declared.Stmt.the-variants.{Skip, Assign, Store, 
 use Rattle.rules.specs.declared.Refusal.the-variants.{RecipeLength, RecipeMark, RecipeVersion, RecipeHeader, BadExpression, WideExpression, BadStatement, BadPort}
 use Rattle.rules.specs.declared.Checked.{Checked}
 use Rattle.rules.specs.Bytes.{byte, half, whole}
-use Rattle.rules.specs.Checks.{require, _andThen_, upTo}
+use Rattle.rules.specs.Checks.{_and_, require, _andThen_, upTo}
 
 pub record Recipe : Type 0 where
   pub exprs : ℕ
@@ -46,22 +46,22 @@ binaryExpr operator a b = getD
 unfoldable pub exprOf : (kind operator a b : ℕ) → Expr
 exprOf kind operator a b = getD
     (BadExpr
-    ∷ exprIf (eqb operator 0 && eqb a 0) (Constant b)
-    ∷ exprIf (eqb operator 0 && eqb b 0) (Variable a)
-    ∷ exprIf (eqb operator 0 && eqb b 0) (Cell a)
+    ∷ exprIf (eqb operator 0 and eqb a 0) (Constant b)
+    ∷ exprIf (eqb operator 0 and eqb b 0) (Variable a)
+    ∷ exprIf (eqb operator 0 and eqb b 0) (Cell a)
     ∷ exprIf (eqb b 0) (unaryExpr operator a)
     ∷ binaryExpr operator a b ∷ []) kind BadExpr
 
 -- a statement by its fields, for kinds 0 to 6
 unfoldable pub stmtOf : (kind port a b c : ℕ) → Stmt
 stmtOf kind port a b c = getD
-    (stmtIf (eqb port 0 && eqb a 0 && eqb b 0 && eqb c 0) Skip
-    ∷ stmtIf (eqb port 0 && eqb c 0) (Assign a b)
-    ∷ stmtIf (eqb port 0 && eqb c 0) (Store a b)
-    ∷ stmtIf (eqb port 0 && eqb c 0) (Then a b)
+    (stmtIf (eqb port 0 and eqb a 0 and eqb b 0 and eqb c 0) Skip
+    ∷ stmtIf (eqb port 0 and eqb c 0) (Assign a b)
+    ∷ stmtIf (eqb port 0 and eqb c 0) (Store a b)
+    ∷ stmtIf (eqb port 0 and eqb c 0) (Then a b)
     ∷ stmtIf (eqb port 0) (If a b c)
-    ∷ stmtIf (eqb port 0 && eqb c 0) (While a b)
-    ∷ stmtIf (eqb b 0 && eqb c 0) (Emit port a) ∷ []) kind BadStmt
+    ∷ stmtIf (eqb port 0 and eqb c 0) (While a b)
+    ∷ stmtIf (eqb b 0 and eqb c 0) (Emit port a) ∷ []) kind BadStmt
 
 -- the record of 8 bytes that begins at byte i
 unfoldable pub expr : List ℕ → ℕ → Expr
@@ -84,13 +84,13 @@ recipeOf r =
 -- ---- the header
 
 unfoldable pub markOk : List ℕ → Bool
-markOk r = eqb (byte r 0) 0x52 && eqb (byte r 1) 0x4A && eqb (byte r 2) 0x52
+markOk r = eqb (byte r 0) 0x52 and eqb (byte r 1) 0x4A and eqb (byte r 2) 0x52
 
 unfoldable pub zerosOk : List ℕ → Bool
-zerosOk r = eqb (byte r 5) 0 && eqb (half r 14) 0
+zerosOk r = eqb (byte r 5) 0 and eqb (half r 14) 0
 
 unfoldable pub countsOk : Recipe → Bool
-countsOk R = leb (R .exprs) 1024 && leb 1 (R .stmts) && leb (R .stmts) 512 && leb (R .vars) 64 && leb (R .cells) 1024
+countsOk R = leb (R .exprs) 1024 and leb 1 (R .stmts) and leb (R .stmts) 512 and leb (R .vars) 64 and leb (R .cells) 1024
 
 -- ---- expressions
 
@@ -100,7 +100,7 @@ exprOk v e (Constant w) = true
 exprOk v e (Variable x) = ltb x v
 exprOk v e (Cell i) = ltb i e
 exprOk v e (Unary op a) = ltb a e
-exprOk v e (Binary op a b) = ltb a e && ltb b e
+exprOk v e (Binary op a b) = ltb a e and ltb b e
 exprOk v e BadExpr = false
 
 -- the spread by the operands' spreads, a shared operand counted at each use
@@ -128,11 +128,11 @@ checkExpr R e = require (exprOk (R .vars) e (R .exprAt e)) (BadExpression e) and
 -- statement s names what is there: variables, expressions, and statements lower than itself
 unfoldable pub stmtOk : (v e s : ℕ) → Stmt → Bool
 stmtOk v e s Skip = true
-stmtOk v e s (Assign x a) = ltb x v && ltb a e
-stmtOk v e s (Store i a) = ltb i e && ltb a e
-stmtOk v e s (Then a b) = ltb a s && ltb b s
-stmtOk v e s (If a b c) = ltb a e && ltb b s && ltb c s
-stmtOk v e s (While a b) = ltb a e && ltb b s
+stmtOk v e s (Assign x a) = ltb x v and ltb a e
+stmtOk v e s (Store i a) = ltb i e and ltb a e
+stmtOk v e s (Then a b) = ltb a s and ltb b s
+stmtOk v e s (If a b c) = ltb a e and ltb b s and ltb c s
+stmtOk v e s (While a b) = ltb a e and ltb b s
 stmtOk v e s (Emit port a) = ltb a e
 stmtOk v e s BadStmt = false
 
@@ -147,7 +147,7 @@ checkRecipe r =
     require (leb 16 (length r)) RecipeLength
     andThen require (markOk r) RecipeMark
     andThen require (eqb (half r 3) 1) RecipeVersion
-    andThen require (zerosOk r && countsOk R) RecipeHeader
+    andThen require (zerosOk r and countsOk R) RecipeHeader
     andThen require (eqb (length r) (16 + 8 * R .exprs + 8 * R .stmts)) RecipeLength
     andThen upTo (R .exprs) (checkExpr R)
     andThen upTo (R .stmts) (checkStmt R)
