@@ -167,7 +167,7 @@ well-formed-recipe r w =
     (both-pass (passes _ (eq-eqb _ _ (w .long)))
     (both-pass
     (up-all (R .exprs) (checkExpr R) λ e l.
-      both-pass (passes _ (ok-expr _ _ _ (w .ordered .exprs-ok e l))) (passes _ (le-leb _ _ (w .narrow e l))))
+    both-pass (passes _ (ok-expr _ _ _ (w .ordered .exprs-ok e l))) (passes _ (le-leb _ _ (w .narrow e l))))
     (up-all (R .stmts) (checkStmt R) λ s l. passes _ (ok-stmt _ _ _ _ (w .ordered .stmts-ok s l))))))))
 
 pub ports-there : (R : Recipe) (ports : ℕ) → checkPorts R ports ≡ Passed → PortsOk R ports
