@@ -10,3 +10,5 @@ pub mod Growth
 pub mod Secrecy
 pub mod Checks
 pub mod Accepts
+pub mod Depth
+pub mod Standing

@@ -1,0 +1,2 @@
+pub mod Magnitude
+pub mod Bounds
