@@ -12,3 +12,5 @@ pub mod Checks
 pub mod Accepts
 pub mod Depth
 pub mod Standing
+pub mod Bytes
+pub mod Demands
