@@ -14,3 +14,4 @@ pub mod Depth
 pub mod Standing
 pub mod Bytes
 pub mod Demands
+pub mod House
