@@ -1,5 +1,5 @@
 -- The demands, said of the top definition on bytes. Assumes nothing.
-use Prim.Native.Nat.{ℕ, zero, suc, _+_, _*_, _≤_, _<_}
+use Prim.Native.Nat.{ℕ, zero, suc, _*_, _^_, _≤_, _<_}
 use native.Mathlib.Omega.{arith}
 use mathlib.Core.Path.{_≡_, refl, sym, ap, _∙_, subst}
 use mathlib.Core.List.{List, _++_}
@@ -13,11 +13,11 @@ use Rattle.rules.specs.declared.End.the-variants.{Done, Budget, Stopped,
 use Rattle.rules.specs.Bytes.{Bytes}
 use Rattle.rules.specs.Policy.{Policy, policyOf}
 use Rattle.rules.specs.Recipe.{Recipe, recipeOf}
-use Rattle.rules.specs.Memory.{count, placesOf, placeBytes, recordBytes}
+use Rattle.rules.specs.Memory.{Memory, valueOf, placeAt, count, placesOf, placeBytes, recordBytes}
 use Rattle.rules.specs.Steps.{State, Turn, Goes, Halts, Finished, step}
 use Rattle.rules.specs.Run.{Result, result, follow, start}
 use Rattle.rules.specs.Judged.{Judged, refused, writtenBack, ran, checks, decided, judged}
-use Rattle.rules.specs.Accepted.{Accepted}
+use Rattle.rules.specs.Accepted.{WellTagged, Accepted}
 use Rattle.rules.specs.Views.{Agreeing, Secret}
 use Rattle.rules.proofs.Accepts.{accepted, not-refused}
 use Rattle.rules.proofs.Growth.{stepsFrom, within-budget}
@@ -109,6 +109,18 @@ kept-run P R m q budget (result e k m′ s) long few l =
       memory-length = omega (arith, length-bytes m′, l .complete);
     }
 
+-- the places are read again from the bytes written back
+read-back : (R : Recipe) (m : Memory) → length m ≡ count R → ((i : ℕ) → valueOf (placeAt m i) < 2 ^ 32) → placesOf R (placeBytes m) ≡ m
+read-back R m complete words = rw (← complete) (places-back m words)
+
+tagged : (P : Policy) (R : Recipe) (room : ℕ) (q : List ℕ) (x : Result) → LeftBy P R room x → WellTagged R (P .tags) (writtenBack q x .memory)
+unfolding writtenBack
+tagged P R room q (result e k m r) l =
+    record {
+      long = omega (arith, length-bytes m, l .complete);
+      tags-below = λ i h. rw (read-back R m (l .complete) (λ j. l .places .ok j .word)) (l .places .ok i .good);
+    }
+
 pub kept : (r p m q : List ℕ) → Bytes r → Bytes m → (budget : ℕ) → Kept m q budget (judged r p m q budget)
 kept r p m q br bm budget = by-checks (checks r p m) refl
   where
@@ -123,6 +135,17 @@ kept r p m q br bm budget = by-checks (checks r p m) refl
         (kept-run (policyOf p) R m q budget (ran r p m (length q) budget) (a .memory .long)
         (within-budget (policyOf p) R (length q) budget (start R (placesOf R m))) (left-by r p m br bm a (length q) budget))
 
+-- the memory that a run leaves is accepted again
+pub accepted-again : (r p m q : List ℕ) → Bytes r → Bytes m → (budget : ℕ) → Accepted r p m → Accepted r p (judged r p m q budget .memory)
+accepted-again r p m q br bm budget a =
+    rw (judged-ran r p m q budget (not-refused r p m a))
+    (record {
+      recipe = a .recipe;
+      policy = a .policy;
+      ports = a .ports;
+      memory = tagged (policyOf p) (recipeOf r) (length q) q (ran r p m (length q) budget) (left-by r p m br bm a (length q) budget);
+    })
+
 -- ---- demand 3
 
 module _ (r p m k : List ℕ) (br : Bytes r) (bm : Bytes m) (bk : Bytes k) (am : Accepted r p m) (ak : Accepted r p k) (A : ℕ) (below : A < policyOf p .tags) where
@@ -130,8 +153,8 @@ module _ (r p m k : List ℕ) (br : Bytes r) (bm : Bytes m) (bk : Bytes k) (am :
       → Close (viewer (policyOf p) lawful A below (recipeOf r)) x y → Secret (policyOf p) A (recipeOf r) (writtenBack q x) (writtenBack q′ y)
   unfolding writtenBack
   secret lawful q q′ (result e n m′ s) (result f n′ k′ t) lx ly c =
-      let back-m : placesOf (recipeOf r) (placeBytes m′) ≡ m′ = rw (← lx .complete) (places-back m′ (λ i. lx .places .ok i .word)) in
-      let back-k : placesOf (recipeOf r) (placeBytes k′) ≡ k′ = rw (← ly .complete) (places-back k′ (λ i. ly .places .ok i .word)) in
+      let back-m = read-back (recipeOf r) m′ (lx .complete) (λ i. lx .places .ok i .word) in
+      let back-k = read-back (recipeOf r) k′ (ly .complete) (λ i. ly .places .ok i .word) in
       record {
         beginning = rw (records-back s _ (lx .words), records-back t _ (ly .words)) (c .beginning);
         same-records = rw (records-back s _ (lx .words), records-back t _ (ly .words)) (c .same-records);

@@ -156,8 +156,16 @@ union-by a b = refl
 pub union-associates : (a b c : ℕ) → unionOf (unionOf a b) c ≡ unionOf a (unionOf b c)
 union-associates a b c =
     rw (
-      union-by (unionOf a b) c, union-by a (unionOf b c),
-      union-8 a b, union-4 a b, union-2 a b, union-1 a b, union-8 b c, union-4 b c, union-2 b c, union-1 b c,
+      union-by (unionOf a b) c,
+      union-by a (unionOf b c),
+      union-8 a b,
+      union-4 a b,
+      union-2 a b,
+      union-1 a b,
+      union-8 b c,
+      union-4 b c,
+      union-2 b c,
+      union-1 b c,
       max-assoc (bit-of (a / 8)) (bit-of (b / 8)) (bit-of (c / 8)),
       max-assoc (bit-of (a / 4)) (bit-of (b / 4)) (bit-of (c / 4)),
       max-assoc (bit-of (a / 2)) (bit-of (b / 2)) (bit-of (c / 2)),

@@ -15,3 +15,6 @@ pub mod Standing
 pub mod Bytes
 pub mod Demands
 pub mod House
+pub mod Numbers
+pub mod Reached
+pub mod Rejected

@@ -3,7 +3,9 @@
 use Prim.Native.Nat.{ℕ}
 use mathlib.Core.List.{List, [], _∷_, _++_}
 use Rattle.rules.specs.Ends.{endNumber, endPlace}
-use Rattle.rules.specs.Judged.{Judged, judged, Hosted, hosted}
+use Rattle.rules.specs.declared.End.{End}
+use Rattle.rules.specs.declared.End.the-variants.{Done, Budget}
+use Rattle.rules.specs.Judged.{Judged, outcomeOf, judged, Hosted, hosted}
 
 -- ---- policies and recipes
 
@@ -73,6 +75,10 @@ unfoldable pub doubled : List ℕ
 doubled = table 9 1 0 0
     (aConstant 1 ++ aBinary 0 0 0 ++ aBinary 0 1 1 ++ aBinary 0 2 2 ++ aBinary 0 3 3 ++ aBinary 0 4 4 ++ aBinary 0 5 5
     ++ aBinary 0 6 6 ++ aBinary 0 7 7 ++ aSkip)
+
+-- the countdown by twos
+unfoldable pub byTwos : List ℕ
+byTwos = table 3 2 1 0 (aVariable 0 ++ aConstant 2 ++ aBinary 1 0 1 ++ aStatement 1 0 2 0 ++ aStatement 5 0 0 0)
 
 -- ---- rows
 
@@ -145,3 +151,26 @@ hostedAnswer =
       room = [];
       report = 0 ∷ 0 ∷ 0 ∷ 0 ∷ 5 ∷ 0 ∷ 0 ∷ 0 ∷ 0 ∷ 0 ∷ 0 ∷ 0 ∷ 9 ∷ [];
     }
+
+-- ---- runs that tell demand 2's machine from others
+
+unfoldable pub two : List ℕ
+two = 2 ∷ 0 ∷ 0 ∷ 0 ∷ 0 ∷ []
+
+unfoldable pub none : List ℕ
+none = 0 ∷ 0 ∷ 0 ∷ 0 ∷ 0 ∷ []
+
+abbrev pub ended : End → (steps : ℕ) → (memory : List ℕ) → Judged
+ended e k m = record { outcome = outcomeOf e k 0; memory = m; room = [] }
+
+unfoldable pub telling : List Judged
+telling =
+    judged countdown twoTags two [] 5
+    ∷ judged countdown twoTags two [] 1
+    ∷ judged countdown twoTags none [] 5
+    ∷ judged byTwos twoTags two [] 5
+    ∷ judged byTwos twoTags two [] 1
+    ∷ []
+
+unfoldable pub told : List Judged
+told = ended Done 5 none ∷ ended Budget 1 two ∷ ended Done 1 none ∷ ended Done 3 none ∷ ended Budget 1 two ∷ []

@@ -10,4 +10,5 @@ pub mod Ends
 pub mod Judged
 pub mod Accepted
 pub mod Views
+pub mod Machines
 pub mod Examples
