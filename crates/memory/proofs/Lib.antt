@@ -1,0 +1,5 @@
+pub mod Stored
+pub mod Places
+pub mod Records
+pub mod Report
+pub mod Check
