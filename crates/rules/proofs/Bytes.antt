@@ -68,7 +68,7 @@ word-in (suc (suc (suc (suc (suc (suc n)))))) operator a b h = tt
 
 -- ---- the policy
 
-lawful : (p : List ℕ) → LawfulPolicy p → Lawful (policyOf p)
+pub lawful : (p : List ℕ) → LawfulPolicy p → Lawful (policyOf p)
 lawful p ok =
     let n = byte p 6 in
     record {

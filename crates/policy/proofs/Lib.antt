@@ -1,0 +1,5 @@
+pub mod Sizes
+pub mod Answers
+pub mod Shape
+pub mod Laws
+pub mod House

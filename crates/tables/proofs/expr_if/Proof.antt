@@ -1,0 +1,16 @@
+use Rattle.rules.specs.Recipe.{exprIf}
+use Rattle.tables.proofs.expr_if.Statement.{statement}
+use Rattle.tables.proofs.expr_if.Tie as tie
+use Rattle.tables.proofs.expr_if.Reads as reads
+use Rattle.tables.proofs.expr_if.Lts as lts
+
+returns : tie.Need-returns
+unfolding exprIf
+returns c = rw (c .if1 .taken)
+
+returns-2 : tie.Need-returns-2
+unfolding exprIf
+returns-2 c = rw (c .if1 .left)
+
+pub expr-if-spec : {M : Type 1} → statement M
+expr-if-spec = tie.close (tie.spec returns returns-2)

@@ -1,0 +1,78 @@
+use Rattle.rules.specs.Recipe.{stmt}
+use borrow.Author.Needs.{needs}
+use Rattle.tables.proofs.stmt_at.Statement.{statement}
+use Rattle.tables.proofs.stmt_at.Tie as tie
+use Rattle.tables.proofs.stmt_at.Reads as reads
+use Rattle.tables.proofs.stmt_at.Lts as lts
+use Rattle.tables.proofs.half_at.Reads as half-at-reads
+use Rattle.tables.proofs.stmt_of.Reads as stmt-of-reads
+
+half-at-requires : tie.Need-half-at-requires
+half-at-requires c κs = search needs
+
+mul-o : tie.Need-mul-o
+mul-o c = search needs
+
+add-o : tie.Need-add-o
+add-o c = search needs
+
+mul-o-2 : tie.Need-mul-o-2
+mul-o-2 c = search needs
+
+add-o-2 : tie.Need-add-o-2
+add-o-2 c = search needs
+
+add-half-at : tie.Need-add-half-at
+add-half-at c = search needs
+
+half-at-requires-2 : tie.Need-half-at-requires-2
+half-at-requires-2 c κs = search needs
+
+add-half-at-2 : tie.Need-add-half-at-2
+add-half-at-2 c = search needs
+
+half-at-requires-3 : tie.Need-half-at-requires-3
+half-at-requires-3 c κs = search needs
+
+add-half-at-3 : tie.Need-add-half-at-3
+add-half-at-3 c = search needs
+
+half-at-requires-4 : tie.Need-half-at-requires-4
+half-at-requires-4 c κs = search needs
+
+shared-slice-read-stmt-of : tie.Need-shared-slice-read-stmt-of
+shared-slice-read-stmt-of c = search needs
+
+add-stmt-of : tie.Need-add-stmt-of
+add-stmt-of c = search needs
+
+shared-slice-read-stmt-of-2 : tie.Need-shared-slice-read-stmt-of-2
+shared-slice-read-stmt-of-2 c = search needs
+
+stmt-of-requires : tie.Need-stmt-of-requires
+stmt-of-requires c κs = search needs
+
+returns : tie.Need-returns
+unfolding stmt
+returns c = cc
+
+pub stmt-at-spec : {M : Type 1} → statement M
+stmt-at-spec =
+    tie.close
+    (tie.spec
+    half-at-requires
+    mul-o
+    add-o
+    mul-o-2
+    add-o-2
+    add-half-at
+    half-at-requires-2
+    add-half-at-2
+    half-at-requires-3
+    add-half-at-3
+    half-at-requires-4
+    shared-slice-read-stmt-of
+    add-stmt-of
+    shared-slice-read-stmt-of-2
+    stmt-of-requires
+    returns)
