@@ -13,7 +13,7 @@ use rules::Refusal;
 
 // ---- entries
 
-// Entry (t,u) of a table of n tags; a function of its own, since its bound is the one fact about a product.
+// Where entry (t,u) stands; on its own, so that the bound of the product is shown once.
 fn spot(n: usize, t: usize, u: usize) -> usize
     requires { ⌜ (n ≤ 16) × (t < n) × (u < n) ⌝ }
     ensures { λ r. ⌜ (r ≡ 8 + t * n + u) × (r < 8 + n * n) ⌝ }
@@ -21,7 +21,7 @@ fn spot(n: usize, t: usize, u: usize) -> usize
     8 + t * n + u
 }
 
-// The laws are checked through this too, before they are known to hold.
+// Asks for no law, so that the check of the laws can use it.
 fn entry(p: &[u8], t: u8, u: u8) -> u8
     requires { ⌜ (Filled (now p)) × (t < byte (now p) 6) × (u < byte (now p) 6) ⌝ }
     ensures { λ r. ⌜ (r ≡ policyOf (now (p .entry)) .join t u) × (r < byte (now (p .entry)) 6) ⌝ }
@@ -160,6 +160,7 @@ fn laws_ok(p: &[u8]) -> bool
     ok
 }
 
+// The first refusal in the order 23, 24, 25.
 pub fn check_policy(p: &[u8]) -> Checked
     ensures { λ c. ⌜ c ≡ checkPolicy (now (p .entry)) ⌝ }
 {
@@ -216,6 +217,7 @@ fn house_byte(k: usize) -> u8
     HOUSE_CLEARANCES[k - 264]
 }
 
+// 29 where the buffer is too short, with nothing written.
 pub fn house_policy(out: &mut [u8]) -> u32
     ensures { λ r. ⌜ (r ≡ houseAsked (now (out .entry)) .number) × (now (out .exit) ≡ houseAsked (now (out .entry)) .buffer) ⌝ }
 {

@@ -100,13 +100,13 @@ module _ {P : Policy} {W : Viewer P} where
   -- ---- both runs in the same place
 
   module _ (R : Recipe) (s : ℕ) {b : ℕ} {m k : Memory} (gb : Good P b) (mk : Alike W m k) where
-    both-assigns : (x : ℕ) {o u : Valued} → Meets W o u → Acts W b m k (assigns P R m s b x o) (assigns P R k s b x u)
+    both-assigns : (x : ℕ) {o u : Valued} → Meets W o u → Acts W b m k (assigns P R m b x o) (assigns P R k b x u)
     both-assigns x fault-left = stop-left
     both-assigns x fault-right = stop-right
     both-assigns x (values a) = both-allow _ _ _ λ _ _. write-same (agree-under gb a)
 
     -- where the index is hidden, each run writes a hidden cell of its own
-    both-stores : {i j o u : Valued} → Meets W i j → Meets W o u → Acts W b m k (stores P R m s b i o) (stores P R k s b j u)
+    both-stores : {i j o u : Valued} → Meets W i j → Meets W o u → Acts W b m k (stores P R m b i o) (stores P R k b j u)
     both-stores fault-left c = stop-left
     both-stores fault-right c = stop-right
     both-stores (values a) fault-left = stop-left
@@ -118,26 +118,26 @@ module _ {P : Policy} {W : Viewer P} where
         write-apart (hides _ _ (high-right gb h) (good-left c) mk e) (hides _ _ (high-right gb j) (good-left (agree-sym c)) (alike-sym mk) f)
 
     -- a record of a hidden value goes to a hidden port
-    both-emits : (port : ℕ) {o u : Valued} → Meets W o u → Acts W b m k (emits P R m s b port o) (emits P R k s b port u)
+    both-emits : (port : ℕ) {o u : Valued} → Meets W o u → Acts W b m k (emits P R m b port o) (emits P R k b port u)
     both-emits port fault-left = stop-left
     both-emits port fault-right = stop-right
     both-emits port (values (same g)) = both-allow _ _ _ λ _ _. say-same
     both-emits port (values (apart h j)) = both-allow _ _ _ λ e _. say-apart (unseen (high-right gb h) e)
 
-    both-chooses : (a c : ℕ) {o u : Valued} → Meets W o u → Acts W b m k (chooses P R m s b a c o) (chooses P R k s b a c u)
+    both-chooses : (a c : ℕ) {o u : Valued} → Meets W o u → Acts W b m k (chooses P R m b a c o) (chooses P R k b a c u)
     both-chooses a c fault-left = stop-left
     both-chooses a c fault-right = stop-right
     both-chooses a c (values (same g)) = push gb (join-below _ _ gb g)
     both-chooses a c (values (apart h j)) = branch (enters by-join (high-right gb h)) (enters by-join (high-right gb j))
 
-    both-loops : (a : ℕ) {o u : Valued} → Meets W o u → Acts W b m k (loops P R m s b a o) (loops P R k s b a u)
+    both-loops : (a : ℕ) {o u : Valued} → Meets W o u → Acts W b m k (loops P R m b s a o) (loops P R k b s a u)
     both-loops a fault-left = stop-left
     both-loops a fault-right = stop-right
     both-loops a (values (same g)) = both-picked (Acts W b m k) _ (push gb (join-below _ _ gb g)) pass
     both-loops a (values (apart h j)) =
         branch (picked (Branches W b) _ (enters by-loop (high-right gb h)) passes) (picked (Branches W b) _ (enters by-loop (high-right gb j)) passes)
 
-    pub both-begins : (c : Stmt) → Acts W b m k (begins P R m s b c) (begins P R k s b c)
+    pub both-begins : (c : Stmt) → Acts W b m k (begins P R m b s c) (begins P R k b s c)
     both-begins Skip = pass
     both-begins (Assign x e) = both-assigns x (meets-eval R mk e)
     both-begins (Store i e) = both-stores (meets-eval R mk i) (meets-eval R mk e)
@@ -161,28 +161,28 @@ module _ {P : Policy} {W : Viewer P} where
   -- ---- one run on a hidden branch
 
   module _ (R : Recipe) (s : ℕ) {b : ℕ} {m k : Memory} (hb : High W b) (mk : Alike W m k) where
-    quiet-assigns : (x : ℕ) {o : Valued} → Fine P o → Quiet W m (assigns P R m s b x o)
+    quiet-assigns : (x : ℕ) {o : Valued} → Fine P o → Quiet W m (assigns P R m b x o)
     quiet-assigns x fault = stop
     quiet-assigns x (value g) = quiet-allow _ _ λ e. write (hides x _ hb g mk e)
 
-    quiet-stores : {i o : Valued} → Fine P i → Fine P o → Quiet W m (stores P R m s b i o)
+    quiet-stores : {i o : Valued} → Fine P i → Fine P o → Quiet W m (stores P R m b i o)
     quiet-stores fault c = stop
     quiet-stores (value g) fault = stop
     quiet-stores (value g) (value c) = quiet-allow _ _ λ _. quiet-allow _ _ λ e. write (hides _ _ (high-left hb g) c mk e)
 
-    quiet-emits : (port : ℕ) {o : Valued} → Fine P o → Quiet W m (emits P R m s b port o)
+    quiet-emits : (port : ℕ) {o : Valued} → Fine P o → Quiet W m (emits P R m b port o)
     quiet-emits port fault = stop
     quiet-emits port (value g) = quiet-allow _ _ λ e. say (unseen (high-left hb g) e)
 
-    quiet-chooses : (a c : ℕ) {o : Valued} → Fine P o → Quiet W m (chooses P R m s b a c o)
+    quiet-chooses : (a c : ℕ) {o : Valued} → Fine P o → Quiet W m (chooses P R m b a c o)
     quiet-chooses a c fault = stop
     quiet-chooses a c (value g) = push hb (high-left hb g)
 
-    quiet-loops : (a : ℕ) {o : Valued} → Fine P o → Quiet W m (loops P R m s b a o)
+    quiet-loops : (a : ℕ) {o : Valued} → Fine P o → Quiet W m (loops P R m b s a o)
     quiet-loops a fault = stop
     quiet-loops a (value g) = picked (Quiet W m) _ (push hb (high-left hb g)) pass
 
-    pub quiet-begins : (c : Stmt) → Quiet W m (begins P R m s b c)
+    pub quiet-begins : (c : Stmt) → Quiet W m (begins P R m b s c)
     quiet-begins Skip = pass
     quiet-begins (Assign x e) = quiet-assigns x (fine-eval R mk e)
     quiet-begins (Store i e) = quiet-stores (fine-eval R mk i) (fine-eval R mk e)

@@ -61,7 +61,7 @@ module _ (R : Recipe) (room s b : ℕ) (l : List Frame) (m : Memory) (r : List R
 
 module _ (P : Policy) (R : Recipe) (room : ℕ) where
   grows-step : (x : State) → Grows (recordsIn x) (step P R room x)
-  grows-step (state b (Begin s) l m r) = grows-performs R room s b l m r (begins P R m s b (R .stmtAt s))
+  grows-step (state b (Begin s) l m r) = grows-performs R room s b l m r (begins P R m b s (R .stmtAt s))
   grows-step (state b Nothing (Next a ∷ l) m r) = keeps
   grows-step (state b Nothing (Join t ∷ l) m r) = keeps
   grows-step (state b Nothing (Loop s t ∷ l) m r) = grows-takes R room s b l m r t (repeats P R m b (loopIn (R .stmtAt s)))

@@ -204,11 +204,11 @@ module _ {P : Policy} {R : Recipe} (ok : Sound P R) where
   act-allow false h k = stops
 
   module _ {s b : ℕ} {m : Memory} (ls : s < R .stmts) (gb : Good P b) (fine : PlacesOk P m) where
-    act-assigns : (x : ℕ) {o : Valued} → x < R .vars → Proper P o → ActOk P R (assigns P R m s b x o)
+    act-assigns : (x : ℕ) {o : Valued} → x < R .vars → Proper P o → ActOk P R (assigns P R m b x o)
     act-assigns x l fault = stops
     act-assigns x l (value k) = act-allow _ _ λ _. writes (omega arith) (place# (join-below _ _ gb (k .good)) (k .word))
 
-    act-stores : {i o : Valued} → Proper P i → Proper P o → ActOk P R (stores P R m s b i o)
+    act-stores : {i o : Valued} → Proper P i → Proper P o → ActOk P R (stores P R m b i o)
     act-stores fault k = stops
     act-stores (value j) fault = stops
     act-stores (value {p = i} j) (value k) =
@@ -216,20 +216,20 @@ module _ {P : Policy} {R : Recipe} (ok : Sound P R) where
         let l : valueOf i < R .cells = ltb-true _ _ e in
         writes (omega arith) (place# (join-below _ _ (join-below _ _ gb (j .good)) (k .good)) (k .word))
 
-    act-emits : (port : ℕ) {o : Valued} → Proper P o → ActOk P R (emits P R m s b port o)
+    act-emits : (port : ℕ) {o : Valued} → Proper P o → ActOk P R (emits P R m b port o)
     act-emits port fault = stops
     act-emits port (value k) = act-allow _ _ λ _. records (k .word)
 
-    act-chooses : (a c : ℕ) {o : Valued} → a < R .stmts → c < R .stmts → Proper P o → ActOk P R (chooses P R m s b a c o)
+    act-chooses : (a c : ℕ) {o : Valued} → a < R .stmts → c < R .stmts → Proper P o → ActOk P R (chooses P R m b a c o)
     act-chooses a c la lc fault = stops
     act-chooses a c la lc (value {p = p} k) =
         pushes (Join b) gb (picked (λ (x : ℕ). x < R .stmts) (valueOf p) la lc) (join-below _ _ gb (k .good))
 
-    act-loops : (a : ℕ) {o : Valued} → a < R .stmts → IsLoop R s → Proper P o → ActOk P R (loops P R m s b a o)
+    act-loops : (a : ℕ) {o : Valued} → a < R .stmts → IsLoop R s → Proper P o → ActOk P R (loops P R m b s a o)
     act-loops a la w fault = stops
     act-loops a la w (value k) = picked (ActOk P R) _ (pushes (Loop s b) (ls, gb, w) la (join-below _ _ gb (k .good))) passes
 
-    act-begins : (c : Stmt) → R .stmtAt s ≡ c → StmtOk (R .vars) (R .exprs) s c → ActOk P R (begins P R m s b c)
+    act-begins : (c : Stmt) → R .stmtAt s ≡ c → StmtOk (R .vars) (R .exprs) s c → ActOk P R (begins P R m b s c)
     act-begins Skip q h = passes
     act-begins (Assign x e) q h = act-assigns x (h .0) (proper fine e)
     act-begins (Store i e) q h = act-stores (proper fine i) (proper fine e)
@@ -242,7 +242,7 @@ module _ {P : Policy} {R : Recipe} (ok : Sound P R) where
     act-begins (Emit port e) q h = act-emits port (proper fine e)
     act-begins BadStmt q h = passes
 
-    pub act-ok : ActOk P R (begins P R m s b (R .stmtAt s))
+    pub act-ok : ActOk P R (begins P R m b s (R .stmtAt s))
     act-ok = act-begins (R .stmtAt s) refl (ok .ordered .stmts-ok s ls)
 
     again-tests : (a : ℕ) {o : Valued} → a < R .stmts → Proper P o → AgainOk P R (tests P R m b a o)

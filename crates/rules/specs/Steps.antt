@@ -79,8 +79,8 @@ unfoldable pub allow : Bool → Stop → Act → Act
 allow true h a = a
 allow false h a = Stops h
 
--- statement s is begun under branch tag b, over the memory m
-module _ (P : Policy) (R : Recipe) (m : Memory) (s b : ℕ) where
+-- a statement is begun under branch tag b, over the memory m
+module _ (P : Policy) (R : Recipe) (m : Memory) (b : ℕ) where
   abbrev pub assigns : (x : ℕ) → Valued → Act
   assigns x (Fault h) = Stops h
   assigns x (Value p) = allow (under P b (tagOf (placeAt m x))) AssignTag (Writes x (valueOf p # P .join b (tagOf p)))
@@ -102,20 +102,20 @@ module _ (P : Policy) (R : Recipe) (m : Memory) (s b : ℕ) where
   chooses a c (Fault h) = Stops h
   chooses a c (Value p) = Pushes (Join b) (test (valueOf p) a c) (P .join b (tagOf p))
 
-  abbrev pub loops : (body : ℕ) → Valued → Act
-  loops a (Fault h) = Stops h
-  loops a (Value p) = test (valueOf p) (Pushes (Loop s b) a (P .join b (tagOf p))) Passes
+  abbrev pub loops : (s body : ℕ) → Valued → Act
+  loops s a (Fault h) = Stops h
+  loops s a (Value p) = test (valueOf p) (Pushes (Loop s b) a (P .join b (tagOf p))) Passes
 
   -- no accepted recipe has a BadStmt
-  abbrev pub begins : Stmt → Act
-  begins Skip = Passes
-  begins (Assign x e) = assigns x (eval P R m e)
-  begins (Store i e) = stores (eval P R m i) (eval P R m e)
-  begins (Then a c) = Pushes (Next c) a b
-  begins (If e a c) = chooses a c (eval P R m e)
-  begins (While e a) = loops a (eval P R m e)
-  begins (Emit port e) = emits port (eval P R m e)
-  begins BadStmt = Passes
+  abbrev pub begins : (s : ℕ) → Stmt → Act
+  begins s Skip = Passes
+  begins s (Assign x e) = assigns x (eval P R m e)
+  begins s (Store i e) = stores (eval P R m i) (eval P R m e)
+  begins s (Then a c) = Pushes (Next c) a b
+  begins s (If e a c) = chooses a c (eval P R m e)
+  begins s (While e a) = loops s a (eval P R m e)
+  begins s (Emit port e) = emits port (eval P R m e)
+  begins s BadStmt = Passes
 
 -- ---- what a repeated test asks
 
@@ -184,7 +184,7 @@ module _ (R : Recipe) (room s b : ℕ) (l : List Frame) (m : Memory) (r : List R
   takes t (Fails h) = Halts h s
 
 abbrev pub step : Policy → Recipe → (room : ℕ) → State → Turn
-step P R room (state b (Begin s) l m r) = performs R room s b l m r (begins P R m s b (R .stmtAt s))
+step P R room (state b (Begin s) l m r) = performs R room s b l m r (begins P R m b s (R .stmtAt s))
 step P R room (state b Nothing (Next a ∷ l) m r) = Goes (state b (Begin a) l m r)
 step P R room (state b Nothing (Join t ∷ l) m r) = Goes (state t Nothing l m r)
 step P R room (state b Nothing (Loop s t ∷ l) m r) = takes R room s b l m r t (repeats P R m b (loopIn (R .stmtAt s)))

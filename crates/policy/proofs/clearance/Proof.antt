@@ -21,11 +21,16 @@ add-result : tie.Need-add-result
 add-result c = search needs
 
 shared-slice-read-result : tie.Need-shared-slice-read-result
-shared-slice-read-result c = omega (arith, c .before .before .before .before .before .before .pre .0 .long, rw (c .before .before .before .wide .ensures .0) at (c .before .before .ports-from .ensures .0))
+shared-slice-read-result c =
+    let lawful = c .before .before .before .before .before .before .pre .0 in
+    omega (arith, lawful .long, rw (c .before .before .before .wide .ensures .0) at (c .before .before .ports-from .ensures .0))
 
 returns : tie.Need-returns
-returns c = let e = rw (c .before .before .before .wide .ensures .0) at (c .before .before .ports-from .ensures .0) in
-    (rw (e, c .before .wide2 .ensures .0), rw (e, c .before .wide2 .ensures .0) (clearance-below _ (c .before .before .before .before .before .before .pre .0) (c .before .before .before .before .before .before .pre .1)))
+returns c =
+    let pre = c .before .before .before .before .before .before .pre in
+    let from = rw (c .before .before .before .wide .ensures .0) at (c .before .before .ports-from .ensures .0) in
+    let port = c .before .wide2 .ensures .0 in
+    (rw (from, port), rw (from, port) (clearance-below _ (pre .0) (pre .1)))
 
 pub clearance-spec : {M : Type 1} → statement M
 clearance-spec =

@@ -21,11 +21,16 @@ spot-requires : tie.Need-spot-requires
 spot-requires c κs = search needs
 
 shared-slice-read-result : tie.Need-shared-slice-read-result
-shared-slice-read-result c = omega (arith, c .before .before .before .before .before .before .before .pre .0 .headed .long, rw (c .before .before .before .before .wide .ensures .0) at (c .before .spot .ensures .1))
+shared-slice-read-result c =
+    let filled = c .before .before .before .before .before .before .before .pre .0 in
+    omega (arith, filled .headed .long, rw (c .before .before .before .before .wide .ensures .0) at (c .before .spot .ensures .1))
 
 returns : tie.Need-returns
-returns c = let e = rw (c .before .before .before .before .wide .ensures .0, c .before .before .before .wide2 .ensures .0, c .before .before .wide3 .ensures .0) at (c .before .spot .ensures .0) in
-    (rw e, rw e (join-below _ (c .before .before .before .before .before .before .before .pre .0) (c .before .before .before .before .before .before .before .pre .1) (c .before .before .before .before .before .before .before .pre .2)))
+returns c =
+    let pre = c .before .before .before .before .before .before .before .pre in
+    let n = c .before .before .before .before .wide .ensures .0 in
+    let e = rw (n, c .before .before .before .wide2 .ensures .0, c .before .before .wide3 .ensures .0) at (c .before .spot .ensures .0) in
+    (rw e, rw e (join-below _ (pre .0) (pre .1) (pre .2)))
 
 pub entry-spec : {M : Type 1} → statement M
 entry-spec =

@@ -73,8 +73,10 @@ returns-10 c =
 
 returns-11 : tie.Need-returns-11
 returns-11 c =
-    let from = rw (c .before .before .before .before .before .before .before .wide .ensures .0) at (c .before .ports-from .ensures .0) in
-    sym (header (c .before .before .before .before .before .before .before .before .before .before .before .before .before .before .before .before .before .before .before .before .before .args .p .now) (search needs))
+    let at-length = c .before .before .before .before .before .before .before in
+    let from = rw (at-length .wide .ensures .0) at (c .before .ports-from .ensures .0) in
+    let start = at-length .before .before .before .before .before .before .before .before .before .before .before .before .before .before in
+    sym (header (start .args .p .now) (search needs))
 
 pub header-ok-spec : {M : Type 1} → statement M
 header-ok-spec =

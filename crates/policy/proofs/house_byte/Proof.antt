@@ -1,5 +1,4 @@
--- `policy::house_byte` meets its contract. The constants are the definitions' lists: antt compares all 256 joins once, at `returns-2`.
--- Assumes nothing.
+-- `policy::house_byte` meets its contract: antt compares the constants with the definitions' lists, all 256 joins at once. Assumes nothing.
 use mathlib.Core.Path.{_≡_, sym}
 use borrow.Author.Needs.{needs}
 use Rattle.rules.specs.Policy.{houseHeader, houseJoins}

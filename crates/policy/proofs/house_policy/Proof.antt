@@ -1,5 +1,4 @@
--- `policy::house_policy` meets its contract. The loop's invariant: the first `k` bytes are the house policy's, the rest as it was.
--- Assumes nothing.
+-- `policy::house_policy` meets its contract. The loop's invariant: the first `k` bytes are the policy's, the rest is as it was. Assumes nothing.
 use Prim.Native.Nat.{_-_, _≤_}
 use native.Mathlib.Omega.{arith}
 use mathlib.Core.Path.{_≡_, refl}
