@@ -66,7 +66,7 @@ module _ (R : Recipe) (m : Memory) (ordered : Ordered R) (complete : length m �
   found : (e : ℕ) → e < R .exprs → Found R m e
   found e l = found-below (suc e) e (omega arith) l
 
-standing-after : {P : Policy} {R : Recipe} {room : ℕ} {t : Turn} {z : State} → Keeps P R room t → t ≡ Goes z → StandingIn P R room z
+pub standing-after : {P : Policy} {R : Recipe} {room : ℕ} {t : Turn} {z : State} → Keeps P R room t → t ≡ Goes z → StandingIn P R room z
 standing-after {P} {R} {room} {t} {z} k q = of-state z (subst (Keeps P R room) q k)
   where
     of-state : (z : State) → Keeps P R room (Goes z) → StandingIn P R room z

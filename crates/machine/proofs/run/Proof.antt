@@ -1,0 +1,284 @@
+-- What is left to run from the state that the loop holds is the whole run. Assumes nothing.
+use borrow.Author.Needs.{needs}
+use native.Mathlib.Omega.{arith}
+use native.Mathlib.Nat.{pos-of-ne-zero}
+use mathlib.Core.Path.{_≡_, refl}
+use Prim.Native.Nat.{_-_}
+use Rattle.rules.specs.Recipe.{recipeOf}
+use Rattle.machine.proofs.Turns.{Stands, starts, depth-below, next-below, top-fits, done, spent-next, spent-frame, passes-on, stops-begun, push-fits, push-below, pushes-on, full, write-below, writes-on, records-on, no-room, keeps-on, keeps-below, drops-on, stops-taken}
+use Rattle.machine.proofs.run.Statement.{statement}
+use Rattle.machine.proofs.run.Tie as tie
+
+abbrev Inv-loop : tie.InvT-loop
+Inv-loop r p m₀ q₀ budget limit x₀ steps₀ records₀ m q x steps records =
+    (limit ≡ recipeOf r .stmts) × Stands r p m₀ q₀ m q (x .stack) budget steps records (x .depth) (x .at) (x .tag)
+
+abbrev μ-loop : tie.MeasureT-loop
+μ-loop r p m₀ q₀ budget limit x₀ steps₀ records₀ m q x steps records = budget - steps
+
+half-at-requires : tie.Need-half-at-requires Inv-loop μ-loop
+half-at-requires c κs = search needs
+
+loop-holds : tie.Need-loop-holds Inv-loop μ-loop
+loop-holds c = (c .half-at .ensures .0, starts (λ i. c .before .before .before .before .shared-slice-known .given i .fits) (λ i. c .before .before .slice-known .given i .fits) refl (c .half-at .ensures .0) (c .before .before .before .before .before .pre))
+
+same-length : tie.Need-same-length Inv-loop μ-loop
+same-length c = search needs
+
+same-length-2 : tie.Need-same-length-2 Inv-loop μ-loop
+same-length-2 c = search needs
+
+returns : tie.Need-returns Inv-loop μ-loop
+returns c = done (c .before .before .loop .inv .1) (c .before .if1 .taken) (c .if2 .taken)
+
+same-length-3 : tie.Need-same-length-3 Inv-loop μ-loop
+same-length-3 c = search needs
+
+same-length-4 : tie.Need-same-length-4 Inv-loop μ-loop
+same-length-4 c = search needs
+
+returns-2 : tie.Need-returns-2 Inv-loop μ-loop
+returns-2 c = spent-frame (c .before .before .before .loop .inv .1) (c .before .before .if1 .taken) (pos-of-ne-zero (c .before .if2 .left)) (c .if3 .taken)
+
+add-steps : tie.Need-add-steps Inv-loop μ-loop
+add-steps c = search needs
+
+sub-w : tie.Need-sub-w Inv-loop μ-loop
+sub-w c = search needs
+
+mul-w : tie.Need-mul-w Inv-loop μ-loop
+mul-w c = omega (arith, depth-below (c .before .before .before .loop .inv .1), c .before .before .before .loop .inv .1 .accepted .recipe .counts .few-stmts)
+
+element-copy-out-w : tie.Need-element-copy-out-w Inv-loop μ-loop
+element-copy-out-w c = omega (arith, depth-below (c .before .before .before .loop .inv .1), c .before .before .before .loop .inv .1 .size, c .before .before .before .loop .inv .1 .accepted .recipe .counts .few-stmts)
+
+frame-of-requires : tie.Need-frame-of-requires Inv-loop μ-loop
+frame-of-requires c κs = search needs
+
+take-requires : tie.Need-take-requires Inv-loop μ-loop
+take-requires c κs = (c .before .before .before .before .before .before .loop .inv .1 .accepted, c .before .before .before .before .before .before .loop .inv .1 .standing .branch, top-fits (c .before .before .before .before .before .before .loop .inv .1) (pos-of-ne-zero (c .before .before .before .before .if2 .left)) (c .frame-of .ensures))
+
+enum-known-k : tie.Need-enum-known-k Inv-loop μ-loop
+enum-known-k c = search needs
+
+add-x : tie.Need-add-x Inv-loop μ-loop
+add-x c = omega (arith, keeps-below (c .before .before .before .before .before .before .before .before .before .before .loop .inv .1) (c .before .before .before .before .before .before .before .if3 .left) (c .before .before .before .before .before .before .before .before .before .if1 .taken) (pos-of-ne-zero (c .before .before .before .before .before .before .before .before .if2 .left)) (c .before .before .before .before .frame-of .ensures) (c .before .before .before .take .ensures) (c .before .k .given .1), c .before .before .before .before .before .before .before .before .before .before .loop .inv .1 .accepted .recipe .counts .few-stmts)
+
+loop-less : tie.Need-loop-less Inv-loop μ-loop
+loop-less c = search needs
+
+loop-again : tie.Need-loop-again Inv-loop μ-loop
+loop-again c = (c .before .before .before .before .before .before .before .before .before .before .loop .inv .0, keeps-on (c .before .before .before .before .before .before .before .before .before .before .loop .inv .1) (c .before .before .before .before .before .before .before .if3 .left) (c .before .before .before .before .before .before .before .before .before .if1 .taken) (pos-of-ne-zero (c .before .before .before .before .before .before .before .before .if2 .left)) (c .before .before .before .before .frame-of .ensures) (c .before .before .before .take .ensures) (c .before .k .given .1))
+
+enum-known-k-2 : tie.Need-enum-known-k-2 Inv-loop μ-loop
+enum-known-k-2 c = search needs
+
+sub-x : tie.Need-sub-x Inv-loop μ-loop
+sub-x c = search needs
+
+loop-less-2 : tie.Need-loop-less-2 Inv-loop μ-loop
+loop-less-2 c = search needs
+
+loop-again-2 : tie.Need-loop-again-2 Inv-loop μ-loop
+loop-again-2 c = (c .before .before .before .before .before .before .before .before .before .before .loop .inv .0, drops-on (c .before .before .before .before .before .before .before .before .before .before .loop .inv .1) (c .before .before .before .before .before .before .before .if3 .left) (c .before .before .before .before .before .before .before .before .before .if1 .taken) (pos-of-ne-zero (c .before .before .before .before .before .before .before .before .if2 .left)) (c .before .before .before .before .frame-of .ensures) (c .before .before .before .take .ensures) (c .before .k2 .given .1))
+
+enum-known-k-3 : tie.Need-enum-known-k-3 Inv-loop μ-loop
+enum-known-k-3 c = search needs
+
+same-length-5 : tie.Need-same-length-5 Inv-loop μ-loop
+same-length-5 c = search needs
+
+same-length-6 : tie.Need-same-length-6 Inv-loop μ-loop
+same-length-6 c = search needs
+
+returns-3 : tie.Need-returns-3 Inv-loop μ-loop
+returns-3 c = stops-taken (c .before .before .before .before .before .before .before .before .before .before .loop .inv .1) (c .before .before .before .before .before .before .before .if3 .left) (c .before .before .before .before .before .before .before .before .before .if1 .taken) (pos-of-ne-zero (c .before .before .before .before .before .before .before .before .if2 .left)) (c .before .before .before .before .frame-of .ensures) (c .before .before .before .take .ensures) (c .before .k3 .given .1)
+
+same-length-7 : tie.Need-same-length-7 Inv-loop μ-loop
+same-length-7 c = search needs
+
+same-length-8 : tie.Need-same-length-8 Inv-loop μ-loop
+same-length-8 c = search needs
+
+returns-4 : tie.Need-returns-4 Inv-loop μ-loop
+returns-4 c = spent-next (c .before .before .loop .inv .1) (pos-of-ne-zero (c .before .if1 .left)) (c .if4 .taken)
+
+add-steps-2 : tie.Need-add-steps-2 Inv-loop μ-loop
+add-steps-2 c = search needs
+
+sub-s : tie.Need-sub-s Inv-loop μ-loop
+sub-s c = search needs
+
+begin-requires : tie.Need-begin-requires Inv-loop μ-loop
+begin-requires c κs = (c .before .before .before .loop .inv .1 .accepted, c .before .before .before .loop .inv .1 .standing .branch, next-below (c .before .before .before .loop .inv .1) (pos-of-ne-zero (c .before .before .if1 .left)))
+
+enum-told : tie.Need-enum-told Inv-loop μ-loop
+enum-told c = search needs
+
+loop-less-3 : tie.Need-loop-less-3 Inv-loop μ-loop
+loop-less-3 c = search needs
+
+loop-again-3 : tie.Need-loop-again-3 Inv-loop μ-loop
+loop-again-3 c = (c .before .before .before .before .before .before .loop .inv .0, passes-on (c .before .before .before .before .before .before .loop .inv .1) (c .before .before .before .before .if4 .left) (pos-of-ne-zero (c .before .before .before .before .before .if1 .left)) (c .before .before .begin .ensures) (c .enum-told .given .1))
+
+enum-known-a : tie.Need-enum-known-a Inv-loop μ-loop
+enum-known-a c = search needs
+
+same-length-9 : tie.Need-same-length-9 Inv-loop μ-loop
+same-length-9 c = search needs
+
+same-length-10 : tie.Need-same-length-10 Inv-loop μ-loop
+same-length-10 c = search needs
+
+returns-5 : tie.Need-returns-5 Inv-loop μ-loop
+returns-5 c = full (c .before .before .before .before .before .before .before .before .loop .inv .1) (c .before .before .before .before .before .before .if4 .left) (pos-of-ne-zero (c .before .before .before .before .before .before .before .if1 .left)) (c .before .before .before .before .begin .ensures) (c .before .before .a .given .1) (omega arith)
+
+word-of-requires : tie.Need-word-of-requires Inv-loop μ-loop
+word-of-requires c κs = (c .before .before .before .before .before .before .before .before .loop .inv .1 .accepted .recipe .counts .few-stmts, c .before .before .before .before .before .before .before .before .loop .inv .1 .accepted .policy .few-tags, push-fits (c .before .before .before .before .before .before .before .before .loop .inv .1) (c .before .before .before .before .before .before .if4 .left) (pos-of-ne-zero (c .before .before .before .before .before .before .before .if1 .left)) (c .before .before .before .before .begin .ensures) (c .before .before .a .given .1))
+
+mul-x : tie.Need-mul-x Inv-loop μ-loop
+mul-x c = search needs
+
+element-write-x : tie.Need-element-write-x Inv-loop μ-loop
+element-write-x c = omega (arith, c .before .if5 .left, c .before .before .before .before .before .before .before .before .before .loop .inv .0, c .before .before .before .before .before .before .before .before .before .loop .inv .1 .size, c .before .before .before .before .before .before .before .before .before .loop .inv .1 .accepted .recipe .counts .few-stmts)
+
+add-x-2 : tie.Need-add-x-2 Inv-loop μ-loop
+add-x-2 c = omega (arith, c .before .if5 .left, c .before .before .before .before .before .before .before .before .before .loop .inv .0, c .before .before .before .before .before .before .before .before .before .loop .inv .1 .accepted .recipe .counts .few-stmts)
+
+add-x-3 : tie.Need-add-x-3 Inv-loop μ-loop
+add-x-3 c = omega (arith, push-below (c .before .before .before .before .before .before .before .before .before .loop .inv .1) (c .before .before .before .before .before .before .before .if4 .left) (pos-of-ne-zero (c .before .before .before .before .before .before .before .before .if1 .left)) (c .before .before .before .before .before .begin .ensures) (c .before .before .before .a .given .1), c .before .before .before .before .before .before .before .before .before .loop .inv .1 .accepted .recipe .counts .few-stmts)
+
+loop-less-4 : tie.Need-loop-less-4 Inv-loop μ-loop
+loop-less-4 c = search needs
+
+loop-again-4 : tie.Need-loop-again-4 Inv-loop μ-loop
+loop-again-4 c = (c .before .before .before .before .before .before .before .before .before .loop .inv .0, pushes-on (c .before .before .before .before .before .before .before .before .before .loop .inv .1) (c .before .before .before .before .before .before .before .if4 .left) (pos-of-ne-zero (c .before .before .before .before .before .before .before .before .if1 .left)) (c .before .before .before .before .before .begin .ensures) (c .before .before .before .a .given .1) _ (omega (arith, c .before .if5 .left, c .before .before .before .before .before .before .before .before .before .loop .inv .0)) (c .word-of .ensures))
+
+enum-known-a-2 : tie.Need-enum-known-a-2 Inv-loop μ-loop
+enum-known-a-2 c = search needs
+
+put-place-requires : tie.Need-put-place-requires Inv-loop μ-loop
+put-place-requires c κs = omega (arith, write-below (c .before .before .before .before .before .before .before .before .loop .inv .1) (c .before .before .before .before .before .before .if4 .left) (pos-of-ne-zero (c .before .before .before .before .before .before .before .if1 .left)) (c .before .before .before .before .begin .ensures) (c .before .before .a2 .given .1), c .before .before .before .before .before .before .before .before .loop .inv .1 .accepted .memory .long)
+
+loop-less-5 : tie.Need-loop-less-5 Inv-loop μ-loop
+loop-less-5 c = search needs
+
+loop-again-5 : tie.Need-loop-again-5 Inv-loop μ-loop
+loop-again-5 c = (c .before .before .before .before .before .before .before .before .before .before .before .loop .inv .0, rw (c .before .before .put-place .ensures .0) (writes-on (c .before .before .before .before .before .before .before .before .before .before .before .loop .inv .1) (c .before .before .before .before .before .before .before .before .before .if4 .left) (pos-of-ne-zero (c .before .before .before .before .before .before .before .before .before .before .if1 .left)) (c .before .before .before .before .before .before .before .begin .ensures) (c .before .before .before .before .before .a2 .given .1) (c .before .before .put-place .ensures .1)))
+
+enum-known-a-3 : tie.Need-enum-known-a-3 Inv-loop μ-loop
+enum-known-a-3 c = search needs
+
+cast-o : tie.Need-cast-o Inv-loop μ-loop
+cast-o c = search needs
+
+mul-o : tie.Need-mul-o Inv-loop μ-loop
+mul-o c = search needs
+
+add-if6 : tie.Need-add-if6 Inv-loop μ-loop
+add-if6 c = search needs
+
+same-length-11 : tie.Need-same-length-11 Inv-loop μ-loop
+same-length-11 c = search needs
+
+same-length-12 : tie.Need-same-length-12 Inv-loop μ-loop
+same-length-12 c = search needs
+
+returns-6 : tie.Need-returns-6 Inv-loop μ-loop
+returns-6 c = no-room (c .before .before .before .before .before .before .before .before .loop .inv .1) (c .before .before .before .before .before .before .if4 .left) (pos-of-ne-zero (c .before .before .before .before .before .before .before .if1 .left)) (c .before .before .before .before .begin .ensures) (c .before .before .a3 .given .1) (omega (arith, c .before .before .before .before .before .before .before .before .loop .inv .1 .same-room, c .if6 .taken))
+
+put-record-requires : tie.Need-put-record-requires Inv-loop μ-loop
+put-record-requires c κs = search needs
+
+add-records : tie.Need-add-records Inv-loop μ-loop
+add-records c = omega (arith, c .before .before .before .before .before .before .before .before .before .before .before .before .loop .inv .1 .few, c .before .before .before .before .before .before .before .before .before .before .if4 .left)
+
+loop-less-6 : tie.Need-loop-less-6 Inv-loop μ-loop
+loop-less-6 c = search needs
+
+loop-again-6 : tie.Need-loop-again-6 Inv-loop μ-loop
+loop-again-6 c = (c .before .before .before .before .before .before .before .before .before .before .before .before .loop .inv .0, rw (c .before .before .put-record .ensures) (records-on (c .before .before .before .before .before .before .before .before .before .before .before .before .loop .inv .1) (c .before .before .before .before .before .before .before .before .before .before .if4 .left) (pos-of-ne-zero (c .before .before .before .before .before .before .before .before .before .before .before .if1 .left)) (c .before .before .before .before .before .before .before .before .begin .ensures) (c .before .before .before .before .before .before .a3 .given .1) (omega (arith, c .before .before .before .before .before .before .before .before .before .before .before .before .loop .inv .1 .same-room, c .before .before .before .before .if6 .left))))
+
+enum-known-a-4 : tie.Need-enum-known-a-4 Inv-loop μ-loop
+enum-known-a-4 c = search needs
+
+same-length-13 : tie.Need-same-length-13 Inv-loop μ-loop
+same-length-13 c = search needs
+
+same-length-14 : tie.Need-same-length-14 Inv-loop μ-loop
+same-length-14 c = search needs
+
+returns-7 : tie.Need-returns-7 Inv-loop μ-loop
+returns-7 c = stops-begun (c .before .before .before .before .before .before .before .loop .inv .1) (c .before .before .before .before .before .if4 .left) (pos-of-ne-zero (c .before .before .before .before .before .before .if1 .left)) (c .before .before .before .begin .ensures) (c .before .a4 .given .1)
+
+pub run-spec : {M : Type 1} → statement M
+run-spec =
+    tie.close
+    (tie.spec
+    Inv-loop
+    μ-loop
+    half-at-requires
+    loop-holds
+    same-length
+    same-length-2
+    returns
+    same-length-3
+    same-length-4
+    returns-2
+    add-steps
+    sub-w
+    mul-w
+    element-copy-out-w
+    frame-of-requires
+    take-requires
+    enum-known-k
+    add-x
+    loop-less
+    loop-again
+    enum-known-k-2
+    sub-x
+    loop-less-2
+    loop-again-2
+    enum-known-k-3
+    same-length-5
+    same-length-6
+    returns-3
+    same-length-7
+    same-length-8
+    returns-4
+    add-steps-2
+    sub-s
+    begin-requires
+    enum-told
+    loop-less-3
+    loop-again-3
+    enum-known-a
+    same-length-9
+    same-length-10
+    returns-5
+    word-of-requires
+    mul-x
+    element-write-x
+    add-x-2
+    add-x-3
+    loop-less-4
+    loop-again-4
+    enum-known-a-2
+    put-place-requires
+    loop-less-5
+    loop-again-5
+    enum-known-a-3
+    cast-o
+    mul-o
+    add-if6
+    same-length-11
+    same-length-12
+    returns-6
+    put-record-requires
+    add-records
+    loop-less-6
+    loop-again-6
+    enum-known-a-4
+    same-length-13
+    same-length-14
+    returns-7)
