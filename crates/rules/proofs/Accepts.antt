@@ -98,7 +98,7 @@ ok-port ports BadStmt h = refl
 
 -- ---- the recipe
 
-counts : (R : Recipe) → countsOk R ≡ true → Counts R
+pub counts : (R : Recipe) → countsOk R ≡ true → Counts R
 unfolding countsOk
 counts R h =
     let h3 = and-left _ _ h in
@@ -227,6 +227,13 @@ laws-back P l =
       itself = l .itself t lt;
       zero-least = l .zero-least t lt;
     })
+
+-- the counts that the header's test bounds
+pub header-counts : (p : List ℕ) → policyHeaderOk p ≡ true → (byte p 6 ≤ 16) × (byte p 7 ≤ 16)
+unfolding policyHeaderOk
+header-counts p h =
+    let g = and-left _ _ h in
+    (leb-true _ _ (and-right _ _ (and-left _ _ g)), leb-true _ _ (and-right _ _ g))
 
 pub policy-lawful : (p : List ℕ) → checkPolicy p ≡ Passed → LawfulPolicy p
 unfolding checkPolicy policyHeaderOk

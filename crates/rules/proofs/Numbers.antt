@@ -1,7 +1,8 @@
 -- Every number given is one of document 01's table. Assumes nothing.
-use Prim.Native.Nat.{ℕ, zero, suc, _≤_}
+use Prim.Native.Nat.{ℕ, zero, suc, _+_, _*_, _≤_, _<_}
+use native.Mathlib.Nat.{mul-le-mul-left}
 use native.Mathlib.Omega.{arith}
-use mathlib.Core.Path.{_≡_, refl, subst, sym}
+use mathlib.Core.Path.{_≡_, refl, subst}
 use mathlib.Core.Bool.{Bool, true, false}
 use mathlib.Core.Logic.{_⊎_, inl, inr}
 use mathlib.Core.List.{List}
@@ -14,15 +15,19 @@ use Rattle.rules.specs.declared.Checked.{Checked}
 use Rattle.rules.specs.declared.Checked.the-variants.{Passed, Failed}
 use Rattle.rules.specs.declared.End.{End}
 use Rattle.rules.specs.declared.End.the-variants.{Done, Budget, Stopped, Refused}
-use Rattle.rules.specs.Bytes.{byte}
+use Rattle.rules.specs.Bytes.{Bytes, byte}
 use Rattle.rules.specs.Checks.{require, _andThen_, upTo}
 use Rattle.rules.specs.Policy.{Policy, policyOf, checkPolicy}
 use Rattle.rules.specs.Recipe.{Recipe, recipeOf, checkRecipe, checkPorts}
-use Rattle.rules.specs.Memory.{placesOf, checkMemory}
-use Rattle.rules.specs.Steps.{State, Turn, Goes, Halts, Finished, step}
-use Rattle.rules.specs.Run.{Result, result, follow, start}
-use Rattle.rules.specs.Ends.{stopNumber, refusalNumber, endNumber}
-use Rattle.rules.specs.Judged.{Judged, writtenBack, ran, checks, decided, judged}
+use Rattle.rules.specs.Memory.{count, checkMemory}
+use Rattle.rules.specs.Run.{Result, result}
+use Rattle.rules.specs.Ends.{stopNumber, refusalNumber, refusalPlace, endNumber, endPlace}
+use Rattle.rules.specs.Judged.{writtenBack, ran, checks, judged}
+use Rattle.rules.proofs.Tests.{and-right}
+use Rattle.rules.proofs.Checks.{required}
+use Rattle.rules.proofs.Accepts.{counts, header-counts, recipe-well-formed, accepted}
+use Rattle.rules.proofs.Standing.{EndOk, LeftBy}
+use Rattle.rules.proofs.Demands.{judged-refused, judged-ran, left-by}
 
 -- ---- checks give 16 to 28
 
@@ -66,45 +71,64 @@ listed (MemoryTag i) k = record { from = omega arith; to = omega arith }
 listed HouseRoom k = absurd k
 listed ReportRoom k = absurd k
 
+-- a refusal by a check, whose place fits 16 bits
 data Numbered : Checked → Type 0 where
   passed : Numbered Passed
-  failed : (x : Refusal) → ByCheck x → Numbered (Failed x)
+  failed : (x : Refusal) → ByCheck x → refusalPlace x < 65536 → Numbered (Failed x)
 
-numbered-require : (b : Bool) (x : Refusal) → ByCheck x → Numbered (require b x)
+numbered-require : (b : Bool) (x : Refusal) → ByCheck x → refusalPlace x < 65536 → Numbered (require b x)
 unfolding require
-numbered-require true x k = passed
-numbered-require false x k = failed x k
+numbered-require true x k l = passed
+numbered-require false x k l = failed x k l
 
-numbered-then : {c d : Checked} → Numbered c → Numbered d → Numbered (c andThen d)
+-- a check is looked at where those before it passed
+numbered-then : {c d : Checked} → Numbered c → (c ≡ Passed → Numbered d) → Numbered (c andThen d)
 unfolding _andThen_
-numbered-then passed k = k
-numbered-then (failed x l) k = failed x l
+numbered-then passed on = on refl
+numbered-then (failed x k l) on = failed x k l
 
-numbered-up : (n : ℕ) {f : ℕ → Checked} → ((i : ℕ) → Numbered (f i)) → Numbered (upTo n f)
+numbered-up : (n : ℕ) {f : ℕ → Checked} → ((i : ℕ) → i < n → Numbered (f i)) → Numbered (upTo n f)
 unfolding upTo
 numbered-up zero on = passed
-numbered-up (suc n) on = numbered-then (numbered-up n on) (on n)
+numbered-up (suc n) on = numbered-then (numbered-up n (λ i l. on i (omega arith))) (λ _. on n (omega arith))
 
 numbered-recipe : (r : List ℕ) → Numbered (checkRecipe r)
-unfolding checkRecipe
+unfolding checkRecipe refusalPlace
 numbered-recipe r =
-    numbered-then (numbered-require _ _ tt)
-    (numbered-then (numbered-require _ _ tt)
-    (numbered-then (numbered-require _ _ tt)
-    (numbered-then (numbered-require _ _ tt)
-    (numbered-then (numbered-require _ _ tt)
-    (numbered-then
-    (numbered-up (recipeOf r .exprs) λ e. numbered-then (numbered-require _ _ tt) (numbered-require _ _ tt))
-    (numbered-up (recipeOf r .stmts) λ s. numbered-require _ _ tt))))))
+    let R = recipeOf r in
+    numbered-then (numbered-require _ _ tt (omega arith)) λ _.
+    numbered-then (numbered-require _ _ tt (omega arith)) λ _.
+    numbered-then (numbered-require _ _ tt (omega arith)) λ _.
+    numbered-then (numbered-require _ _ tt (omega arith)) λ h.
+    let few = counts R (and-right _ _ (required _ _ h)) in
+    numbered-then (numbered-require _ _ tt (omega arith)) λ _.
+    numbered-then
+    (numbered-up (R .exprs) λ e l.
+      let b : e < 65536 = omega (arith, few .few-exprs) in
+      numbered-then (numbered-require _ _ tt b) λ _. numbered-require _ _ tt b) λ _.
+    numbered-up (R .stmts) λ s l. numbered-require _ _ tt (omega (arith, few .few-stmts))
+
+numbered-policy : (p : List ℕ) → Numbered (checkPolicy p)
+unfolding checkPolicy refusalPlace
+numbered-policy p =
+    numbered-then (numbered-require _ _ tt (omega arith)) λ h.
+    let few = header-counts p (required _ _ h) in
+    numbered-then
+    (numbered-up _ λ i l.
+      let b : 8 + i < 65536 = omega (arith, few .0, few .1, mul-le-mul-left (byte p 6) (few .0)) in
+      numbered-require _ _ tt b) λ _.
+    numbered-require _ _ tt (omega arith)
 
 numbered-checks : (r p m : List ℕ) → Numbered (checks r p m)
-unfolding checks checkPolicy checkPorts checkMemory
+unfolding checks checkPorts checkMemory refusalPlace
 numbered-checks r p m =
-    numbered-then (numbered-recipe r)
-    (numbered-then
-    (numbered-then (numbered-require _ _ tt) (numbered-then (numbered-up _ λ i. numbered-require _ _ tt) (numbered-require _ _ tt)))
-    (numbered-then (numbered-up _ λ s. numbered-require _ _ tt)
-    (numbered-then (numbered-require _ _ tt) (numbered-up _ λ i. numbered-require _ _ tt))))
+    let R = recipeOf r in
+    numbered-then (numbered-recipe r) λ h.
+    let few = recipe-well-formed r h .counts in
+    numbered-then (numbered-policy p) λ _.
+    numbered-then (numbered-up (R .stmts) λ s l. numbered-require _ _ tt (omega (arith, few .few-stmts))) λ _.
+    numbered-then (numbered-require _ _ tt (omega arith)) λ _.
+    numbered-up (count R) λ i l. numbered-require _ _ tt (omega (arith, few .few-vars, few .few-cells))
 
 -- ---- runs give 0 to 8
 
@@ -118,31 +142,41 @@ stop-to Divisor = omega arith
 stop-to Room = omega arith
 stop-to Frames = omega arith
 
-run-to : (P : Policy) (R : Recipe) (room n k : ℕ) (x : State) (t : Turn) (q : List ℕ)
-    → endNumber (writtenBack q (follow P R room n k x t) .outcome .end) ≤ 8
-unfolding follow writtenBack endNumber
-run-to P R room zero k x Finished q = omega arith
-run-to P R room zero k x (Goes y) q = omega arith
-run-to P R room zero k x (Halts h s) q = omega arith
-run-to P R room (suc n) k x Finished q = omega arith
-run-to P R room (suc n) k x (Goes y) q = run-to P R room n (suc k) y (step P R room y) q
-run-to P R room (suc n) k x (Halts h s) q = stop-to h
+run-to : (R : Recipe) (e : End) → EndOk R e → endNumber e ≤ 8
+unfolding endNumber
+run-to R Done k = omega arith
+run-to R Budget k = omega arith
+run-to R (Stopped h s) k = stop-to h
+run-to R (Refused x) k = absurd k
+
+place-to : (R : Recipe) (e : End) → R .stmts ≤ 512 → EndOk R e → endPlace e < 65536
+unfolding endPlace
+place-to R Done few k = omega arith
+place-to R Budget few k = omega arith
+place-to R (Stopped h s) few k = omega arith
+place-to R (Refused x) few k = absurd k
 
 -- ---- the machine
 
-abbrev Given : ℕ → Type 0
-Given n = (n ≤ 8) ⊎ Listed n
+-- the number is one of the table's, and the place fits the report
+pub record Given (e : End) : Type 0 where
+  pub number : (endNumber e ≤ 8) ⊎ Listed (endNumber e)
+  pub place : endPlace e < 65536
 
-given : {c : Checked} (m q : List ℕ) (x : Judged) → Numbered c → endNumber (x .outcome .end) ≤ 8 → Given (endNumber (decided c m q x .outcome .end))
-unfolding decided endNumber
-given m q x passed l = inl l
-given m q x (failed y k) l = inr (listed y k)
+refused-given : (m q : List ℕ) {x : Refusal} → Numbered (Failed x) → Given (Refused x)
+unfolding endNumber endPlace
+refused-given m q (failed x k l) = record { number = inr (listed x k); place = l }
 
-pub judged-listed : (r p m q : List ℕ) (budget : ℕ) → Given (endNumber (judged r p m q budget .outcome .end))
-unfolding judged
-judged-listed r p m q budget =
-    let P = policyOf p in
-    let R = recipeOf r in
-    let x = start R (placesOf R m) in
-    given m q (writtenBack q (ran r p m (length q) budget)) (numbered-checks r p m)
-    (run-to P R (length q) budget 0 x (step P R (length q) x) q)
+ran-given : (P : Policy) (R : Recipe) (q : List ℕ) (x : Result) → R .stmts ≤ 512 → LeftBy P R (length q) x → Given (writtenBack q x .outcome .end)
+unfolding writtenBack
+ran-given P R q (result e k m r) few l = record { number = inl (run-to R e (l .ends-at)); place = place-to R e few (l .ends-at) }
+
+pub judged-given : (r p m q : List ℕ) → Bytes r → Bytes m → (budget : ℕ) → Given (judged r p m q budget .outcome .end)
+judged-given r p m q br bm budget = by-checks (checks r p m) refl
+  where
+    by-checks : (c : Checked) → checks r p m ≡ c → Given (judged r p m q budget .outcome .end)
+    by-checks (Failed x) e = rw (judged-refused r p m q budget e) (refused-given m q (subst Numbered e (numbered-checks r p m)))
+    by-checks Passed e =
+        let a = accepted r p m e in
+        rw (judged-ran r p m q budget e)
+        (ran-given (policyOf p) (recipeOf r) q (ran r p m (length q) budget) (a .recipe .counts .few-stmts) (left-by r p m br bm a (length q) budget))

@@ -30,6 +30,8 @@ use Rattle.rules.specs.declared.Act.{Act}
 use Rattle.rules.specs.declared.Act.the-variants.{Passes, Pushes, Writes, Records, Stops}
 use Rattle.rules.specs.declared.Again.{Again}
 use Rattle.rules.specs.declared.Again.the-variants.{Repeats, Leaves, Fails}
+use Rattle.rules.specs.declared.End.{End}
+use Rattle.rules.specs.declared.End.the-variants.{Done, Budget, Stopped, Refused}
 use Rattle.rules.specs.Operators.{unary, binary}
 use Rattle.rules.specs.Policy.{Policy, under}
 use Rattle.rules.specs.Recipe.{Recipe}
@@ -107,7 +109,7 @@ StandingIn P R room (state b w l m r) = Standing P R room b w l m r
 -- a step keeps it so
 pub data Keeps (P : Policy) (R : Recipe) (room : ℕ) : Turn → Type 0 where
   goes : {b : ℕ} {w : Waiting} {l : List Frame} {m : Memory} {r : List Record} → Standing P R room b w l m r → Keeps P R room (Goes (state b w l m r))
-  halts : {h : Stop} {s : ℕ} → Keeps P R room (Halts h s)
+  halts : {h : Stop} {s : ℕ} → s < R .stmts → Keeps P R room (Halts h s)
   finishes : Keeps P R room Finished
 
 -- ---- what a statement and a repeated test ask
@@ -276,10 +278,10 @@ words-more [] port v w l = (l, tt)
 words-more (out p x ∷ r) port v w l = (w .0, words-more r port v (w .1) l)
 
 module _ {P : Policy} {R : Recipe} {room : ℕ} where
-  keeps-check : (a : Bool) (h : Stop) (s : ℕ) {x : Turn} → (a ≡ true → Keeps P R room x) → Keeps P R room (check a h s x)
+  keeps-check : (a : Bool) (h : Stop) {s : ℕ} → s < R .stmts → {x : Turn} → (a ≡ true → Keeps P R room x) → Keeps P R room (check a h s x)
   unfolding check
-  keeps-check true h s k = k refl
-  keeps-check false h s k = halts
+  keeps-check true h l k = k refl
+  keeps-check false h l k = halts l
 
   module _ {b : ℕ} {w : Waiting} {l : List Frame} {m : Memory} {r : List Record} (g : Standing P R room b w l m r) where
     -- the same memory and records, with another branch tag, statement to begin and stack
@@ -314,24 +316,24 @@ module _ {P : Policy} {R : Recipe} {room : ℕ} where
           fits = rw (length-append r (out port v ∷ [])) (omega arith);
         }
 
-    keeps-performs : (s : ℕ) {x : Act} → ActOk P R x → Keeps P R room (performs R room s b l m r x)
-    keeps-performs s passes = goes (moved b Nothing l (g .branch) tt (g .frames) (g .depth))
-    keeps-performs s (pushes f {a = a} {t = t} k la gt) =
-        keeps-check _ _ _ λ e.
+    keeps-performs : {s : ℕ} → s < R .stmts → {x : Act} → ActOk P R x → Keeps P R room (performs R room s b l m r x)
+    keeps-performs ls passes = goes (moved b Nothing l (g .branch) tt (g .frames) (g .depth))
+    keeps-performs ls (pushes f {a = a} {t = t} k la gt) =
+        keeps-check _ _ ls λ e.
         let d : length l < R .stmts = ltb-true _ _ e in
         goes (moved t (Begin a) (f ∷ l) gt la (k, g .frames) (omega arith))
-    keeps-performs s (writes {p = p} li k) = goes (written p li k)
-    keeps-performs s (records {port = port} {v = v} k) = keeps-check _ _ _ λ e. goes (recorded port v k (leb-true _ _ e))
-    keeps-performs s stops = halts
+    keeps-performs ls (writes {p = p} li k) = goes (written p li k)
+    keeps-performs ls (records {port = port} {v = v} k) = keeps-check _ _ ls λ e. goes (recorded port v k (leb-true _ _ e))
+    keeps-performs ls stops = halts ls
 
     keeps-takes : (s t : ℕ) → FrameOk P R (Loop s t) → length l < R .stmts → {x : Again} → AgainOk P R x → Keeps P R room (takes R room s b l m r t x)
     keeps-takes s t f d (repeats-ok {a = a} {t = u} la gu) = goes (moved u (Begin a) (Loop s t ∷ l) gu la (f, g .frames) (omega arith))
     keeps-takes s t f d leaves = goes (moved t Nothing l (f .1) tt (g .frames) (g .depth))
-    keeps-takes s t f d fails = halts
+    keeps-takes s t f d fails = halts (f .0)
 
 module _ {P : Policy} {R : Recipe} (ok : Sound P R) where
   pub keeps-step : (room : ℕ) (x : State) → StandingIn P R room x → Keeps P R room (step P R room x)
-  keeps-step room (state b (Begin s) l m r) g = keeps-performs g s (act-ok ok (g .waiting) (g .branch) (g .places))
+  keeps-step room (state b (Begin s) l m r) g = keeps-performs g (g .waiting) (act-ok ok (g .waiting) (g .branch) (g .places))
   keeps-step room (state b Nothing (Next a ∷ l) m r) g =
       goes (moved g b (Begin a) l (g .branch) (g .frames .0) (g .frames .1) (omega (arith, g .depth)))
   keeps-step room (state b Nothing (Join t ∷ l) m r) g =
@@ -356,30 +358,38 @@ module _ {P : Policy} {R : Recipe} (ok : Sound P R) where
         fits = omega arith;
       }
 
+-- a run gives no refusal, and stops at a statement of the recipe
+abbrev pub EndOk : Recipe → End → Type 0
+EndOk R Done = Unit {0}
+EndOk R Budget = Unit {0}
+EndOk R (Stopped h s) = s < R .stmts
+EndOk R (Refused x) = ⊥
+
 -- what a run leaves
-pub record Left (P : Policy) (R : Recipe) (room : ℕ) (m : Memory) (r : List Record) : Type 0 where
+pub record Left (P : Policy) (R : Recipe) (room : ℕ) (e : End) (m : Memory) (r : List Record) : Type 0 where
+  pub ends-at : EndOk R e
   pub complete : length m ≡ count R
   pub places : PlacesOk P m
   pub words : WordsOk r
   pub fits : 5 * length r ≤ room
 
 abbrev pub LeftBy : Policy → Recipe → (room : ℕ) → Result → Type 0
-LeftBy P R room (result e k m r) = Left P R room m r
+LeftBy P R room (result e k m r) = Left P R room e m r
 
 module _ {P : Policy} {R : Recipe} (ok : Sound P R) (room : ℕ) where
-  left : {b : ℕ} {w : Waiting} {l : List Frame} {m : Memory} {r : List Record} → Standing P R room b w l m r → Left P R room m r
-  left g = record { complete = g .complete; places = g .places; words = g .words; fits = g .fits }
+  left : {b : ℕ} {w : Waiting} {l : List Frame} {m : Memory} {r : List Record} → (e : End) → EndOk R e → Standing P R room b w l m r → Left P R room e m r
+  left e k g = record { ends-at = k; complete = g .complete; places = g .places; words = g .words; fits = g .fits }
 
   left-follow : (n k : ℕ) (x : State) {t : Turn} → StandingIn P R room x → Keeps P R room t → LeftBy P R room (follow P R room n k x t)
   unfolding follow
-  left-follow zero k (state b w l m r) g finishes = left g
-  left-follow zero k (state b w l m r) g (goes h) = left g
-  left-follow zero k (state b w l m r) g halts = left g
-  left-follow (suc n) k (state b w l m r) g finishes = left g
+  left-follow zero k (state b w l m r) g finishes = left Done tt g
+  left-follow zero k (state b w l m r) g (goes h) = left Budget tt g
+  left-follow zero k (state b w l m r) g (halts h) = left Budget tt g
+  left-follow (suc n) k (state b w l m r) g finishes = left Done tt g
   left-follow (suc n) k (state b w l m r) g (goes {b = b′} {w = w′} {l = l′} {m = m′} {r = r′} h) =
       let y = state b′ w′ l′ m′ r′ in
       left-follow n (suc k) y h (keeps-step ok room y h)
-  left-follow (suc n) k (state b w l m r) g halts = left g
+  left-follow (suc n) k (state b w l m r) g (halts {h = h} {s = s} l′) = left (Stopped h s) l′ g
 
   pub left-run : (n k : ℕ) (x : State) → StandingIn P R room x → LeftBy P R room (run P R room n k x)
   left-run n k x g = left-follow n k x g (keeps-step ok room x g)

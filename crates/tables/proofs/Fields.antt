@@ -9,12 +9,14 @@ use Rattle.rules.specs.declared.Stmt.{Stmt}
 use Rattle.rules.specs.Checks.{_and_}
 use Rattle.rules.specs.Recipe.{stmtIf, exprOf}
 
-pub zero-le : (n : ℕ) → 0 ≤ n
-zero-le n = omega arith
+-- k is none of the numbers below n, as the last arm of a `match` knows it; omega takes no more than six such facts at once
+abbrev pub Other : (n k : ℕ) → Type 0
+Other zero k = Unit {0}
+Other (suc n) k = Other n k × (k ≡ n → ⊥)
 
--- one more number that n is not
-pub up : {k n : ℕ} → k ≤ n → (n ≡ k → ⊥) → suc k ≤ n
-up h f = omega (arith, f)
+pub past : (n k : ℕ) → Other n k → n ≤ k
+past zero k h = omega arith
+past (suc n) k h = omega (arith, past n k (h .0), h .1)
 
 -- kind 0 is none too
 pub no-expr : (k operator a b : ℕ) → (1 ≤ k → 6 ≤ k) → exprOf k operator a b ≡ BadExpr

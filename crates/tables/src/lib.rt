@@ -45,15 +45,12 @@ pub fn word_at(b: &[u8], i: usize) -> u32
     low_at(b, i) + 65536 * low_at(b, i + 2)
 }
 
-// ---- records
+// ---- records: a field that the kind does not use is zero, or there is no such record
 
 fn zeros(x: usize, y: usize) -> bool
     ensures { λ b. ⌜ b ≡ (eqb x 0 and eqb y 0) ⌝ }
 {
-    if x == 0 {
-        return y == 0;
-    }
-    false
+    x == 0 && y == 0
 }
 
 // ---- expressions
@@ -86,7 +83,6 @@ fn binary_expr(operator: u8, a: usize, b: usize) -> Expr
     }
 }
 
-// The expression, where the fields that its kind does not use are zero.
 fn expr_if(unused: bool, x: Expr) -> Expr
     ensures { λ y. ⌜ y ≡ exprIf unused x ⌝ }
 {

@@ -9,8 +9,8 @@ use Rattle.rules.specs.Recipe.{recipeOf, checkExpr}
 use Rattle.rules.proofs.Checks.{passes, fails, next, stops, both-pass, up-none, up-more, up-stops}
 use Rattle.recipe.proofs.Order.{denied, held, finished}
 use Rattle.recipe.proofs.Spreads.{reached}
-use Rattle.recipe.proofs.check_exprs.Tie as tie
 use Rattle.recipe.proofs.check_exprs.Statement.{statement}
+use Rattle.recipe.proofs.check_exprs.Tie as tie
 
 abbrev Inv-loop : tie.InvT-loop
 Inv-loop r exprs vars e₀ e = (e ≤ exprs) × (upTo e (checkExpr (recipeOf r)) ≡ Passed)

@@ -2,8 +2,8 @@
 use native.Mathlib.Omega.{arith}
 use borrow.Author.Needs.{needs}
 use Rattle.recipe.proofs.Order.{denied, held, too-short, no-mark, no-version, no-zeros, no-counts, no-length, header}
-use Rattle.recipe.proofs.check_header.Tie as tie
 use Rattle.recipe.proofs.check_header.Statement.{statement}
+use Rattle.recipe.proofs.check_header.Tie as tie
 
 returns : tie.Need-returns
 returns c = too-short _ (omega arith)

@@ -8,8 +8,8 @@ use Rattle.rules.specs.Checks.{require, upTo}
 use Rattle.rules.specs.Recipe.{recipeOf, portOk, checkPorts}
 use Rattle.rules.proofs.Checks.{passes, fails, up-none, up-more, up-stops}
 use Rattle.recipe.proofs.Order.{denied, held, finished}
-use Rattle.recipe.proofs.check_ports.Tie as tie
 use Rattle.recipe.proofs.check_ports.Statement.{statement}
+use Rattle.recipe.proofs.check_ports.Tie as tie
 
 abbrev Inv-loop : tie.InvT-loop
 Inv-loop r ports stmts s₀ s = (s ≤ stmts) × (upTo s (λ i. require (portOk ports (recipeOf r .stmtAt i)) (BadPort i)) ≡ Passed)

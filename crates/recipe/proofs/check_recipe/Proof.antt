@@ -4,8 +4,8 @@ use mathlib.Core.Path.{sym, _∙_}
 use borrow.Author.Needs.{needs}
 use Rattle.rules.proofs.Checks.{next, stops}
 use Rattle.recipe.proofs.Order.{exact, whole}
-use Rattle.recipe.proofs.check_recipe.Tie as tie
 use Rattle.recipe.proofs.check_recipe.Statement.{statement}
+use Rattle.recipe.proofs.check_recipe.Tie as tie
 
 check-header-requires : tie.Need-check-header-requires
 check-header-requires c κs = search needs

@@ -7,8 +7,8 @@ use Rattle.rules.specs.Checks.{upTo}
 use Rattle.rules.specs.Recipe.{recipeOf, checkStmt}
 use Rattle.rules.proofs.Checks.{passes, fails, up-none, up-more, up-stops}
 use Rattle.recipe.proofs.Order.{denied, held, finished}
-use Rattle.recipe.proofs.check_stmts.Tie as tie
 use Rattle.recipe.proofs.check_stmts.Statement.{statement}
+use Rattle.recipe.proofs.check_stmts.Tie as tie
 
 abbrev Inv-loop : tie.InvT-loop
 Inv-loop r exprs stmts vars s₀ s = (s ≤ stmts) × (upTo s (checkStmt (recipeOf r)) ≡ Passed)

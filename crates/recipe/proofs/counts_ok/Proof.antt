@@ -6,8 +6,8 @@ use Rattle.rules.specs.Bytes.{half}
 use Rattle.rules.specs.Checks.{_and_}
 use Rattle.rules.specs.Recipe.{countsOk}
 use Rattle.recipe.proofs.Order.{any-and-false}
-use Rattle.recipe.proofs.counts_ok.Tie as tie
 use Rattle.recipe.proofs.counts_ok.Statement.{statement}
+use Rattle.recipe.proofs.counts_ok.Tie as tie
 
 half-at-requires : tie.Need-half-at-requires
 half-at-requires c κs = search needs

@@ -3,8 +3,8 @@ use borrow.Author.Needs.{needs}
 use borrow.Author.Tests.{lt-ltb, le-ltb}
 use Rattle.rules.specs.Checks.{_and_}
 use Rattle.rules.specs.Recipe.{exprOk}
-use Rattle.recipe.proofs.expr_ok.Tie as tie
 use Rattle.recipe.proofs.expr_ok.Statement.{statement}
+use Rattle.recipe.proofs.expr_ok.Tie as tie
 
 enum-told : tie.Need-enum-told
 enum-told c = search needs

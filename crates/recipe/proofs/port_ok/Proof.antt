@@ -10,8 +10,8 @@ use Rattle.rules.specs.declared.Stmt.the-variants.{Skip, Assign, Store, Then, I
 use Rattle.rules.specs.declared.Stmt.{Stmt}
 use Rattle.rules.specs.Recipe.{portOk}
 use Rattle.rules.proofs.Stmt.{enum}
-use Rattle.recipe.proofs.port_ok.Tie as tie
 use Rattle.recipe.proofs.port_ok.Statement.{statement}
+use Rattle.recipe.proofs.port_ok.Tie as tie
 
 -- any other statement
 other : (ports : ℕ) (x : Stmt) → OneOf (0 ∷ 1 ∷ 2 ∷ 3 ∷ 4 ∷ 5 ∷ 7 ∷ []) (tagOf (declared enum) x) → true ≡ portOk ports x

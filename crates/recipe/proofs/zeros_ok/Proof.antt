@@ -3,8 +3,8 @@ use borrow.Author.Needs.{needs}
 use borrow.Author.Tests.{eq-eqb, ne-eqb}
 use Rattle.rules.specs.Checks.{_and_}
 use Rattle.rules.specs.Recipe.{zerosOk}
-use Rattle.recipe.proofs.zeros_ok.Tie as tie
 use Rattle.recipe.proofs.zeros_ok.Statement.{statement}
+use Rattle.recipe.proofs.zeros_ok.Tie as tie
 
 shared-slice-read-if1 : tie.Need-shared-slice-read-if1
 shared-slice-read-if1 c = search needs

@@ -1,11 +1,10 @@
+-- `tables::binary_expr` meets its contract: an operator past the last is in no list. Assumes nothing.
 use Prim.Native.Nat.{_≤_}
 use lib.ListN.{List·getD-eq-default}
 use Rattle.rules.specs.Recipe.{binaryExpr}
-use Rattle.tables.proofs.Fields.{zero-le, up}
+use Rattle.tables.proofs.Fields.{past}
 use Rattle.tables.proofs.binary_expr.Statement.{statement}
 use Rattle.tables.proofs.binary_expr.Tie as tie
-use Rattle.tables.proofs.binary_expr.Reads as reads
-use Rattle.tables.proofs.binary_expr.Lts as lts
 
 returns : tie.Need-returns
 unfolding binaryExpr
@@ -45,7 +44,9 @@ returns-9 c = rw (c .match .keys9)
 
 returns-10 : tie.Need-returns-10
 unfolding binaryExpr
-returns-10 c = let h : 9 ≤ c .before .args .operator = (up (up (up (up (up (up (up (up (up (zero-le _) (c .match .rest .0 .0 .0 .0 .0 .0 .0 .0 .1)) (c .match .rest .0 .0 .0 .0 .0 .0 .0 .1)) (c .match .rest .0 .0 .0 .0 .0 .0 .1)) (c .match .rest .0 .0 .0 .0 .0 .1)) (c .match .rest .0 .0 .0 .0 .1)) (c .match .rest .0 .0 .0 .1)) (c .match .rest .0 .0 .1)) (c .match .rest .0 .1)) (c .match .rest .1)) in rw List·getD-eq-default
+returns-10 c =
+    let h : 9 ≤ c .before .args .operator = past 9 _ (c .match .rest) in
+    rw List·getD-eq-default
 
 pub binary-expr-spec : {M : Type 1} → statement M
 binary-expr-spec =

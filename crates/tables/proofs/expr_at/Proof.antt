@@ -1,12 +1,8 @@
-use Rattle.rules.specs.Recipe.{expr}
+-- `tables::expr_at` meets its contract: each field is read where the record has it. Assumes nothing.
 use borrow.Author.Needs.{needs}
+use Rattle.rules.specs.Recipe.{expr}
 use Rattle.tables.proofs.expr_at.Statement.{statement}
 use Rattle.tables.proofs.expr_at.Tie as tie
-use Rattle.tables.proofs.expr_at.Reads as reads
-use Rattle.tables.proofs.expr_at.Lts as lts
-use Rattle.tables.proofs.expr_of.Reads as expr-of-reads
-use Rattle.tables.proofs.half_at.Reads as half-at-reads
-use Rattle.tables.proofs.word_at.Reads as word-at-reads
 
 mul-o : tie.Need-mul-o
 mul-o c = search needs
@@ -40,7 +36,7 @@ expr-of-requires c κs = search needs
 
 returns : tie.Need-returns
 unfolding expr
-returns c = cc
+returns c = rw (c .expr-of .ensures, c .before .before .before .before .half-at .ensures .0, c .before .before .before .word-at .ensures)
 
 pub expr-at-spec : {M : Type 1} → statement M
 expr-at-spec =

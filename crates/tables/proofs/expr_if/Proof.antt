@@ -1,8 +1,7 @@
+-- `tables::expr_if` meets its contract. Assumes nothing.
 use Rattle.rules.specs.Recipe.{exprIf}
 use Rattle.tables.proofs.expr_if.Statement.{statement}
 use Rattle.tables.proofs.expr_if.Tie as tie
-use Rattle.tables.proofs.expr_if.Reads as reads
-use Rattle.tables.proofs.expr_if.Lts as lts
 
 returns : tie.Need-returns
 unfolding exprIf

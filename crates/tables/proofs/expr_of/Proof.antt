@@ -1,16 +1,11 @@
+-- `tables::expr_of` meets its contract, kind by kind. Assumes nothing.
+use native.Mathlib.Omega.{arith}
 use mathlib.Core.Path.{sym}
-use Rattle.rules.specs.Recipe.{exprOf}
-use Rattle.tables.proofs.Fields.{up, no-expr}
 use borrow.Author.Needs.{needs}
+use Rattle.rules.specs.Recipe.{exprOf}
+use Rattle.tables.proofs.Fields.{no-expr}
 use Rattle.tables.proofs.expr_of.Statement.{statement}
 use Rattle.tables.proofs.expr_of.Tie as tie
-use Rattle.tables.proofs.expr_of.Reads as reads
-use Rattle.tables.proofs.expr_of.Lts as lts
-use Rattle.tables.proofs.binary_expr.Reads as binary-expr-reads
-use Rattle.tables.proofs.expr_if.Reads as expr-if-reads
-use Rattle.tables.proofs.unary_expr.Reads as unary-expr-reads
-use Rattle.tables.proofs.wide.Reads as wide-reads
-use Rattle.tables.proofs.zeros.Reads as zeros-reads
 
 wide-requires : tie.Need-wide-requires
 wide-requires c κs = search needs
@@ -44,26 +39,26 @@ binary-expr-requires c κs = search needs
 
 returns : tie.Need-returns
 unfolding exprOf
-returns c = rw (c .before .before .before .match .keys1) cc
+returns c = rw (c .before .before .before .match .keys1, c .expr-if .ensures, c .before .zeros2 .ensures, c .before .before .wide2 .ensures .0)
 
 returns-2 : tie.Need-returns-2
 unfolding exprOf
-returns-2 c = rw (c .before .match .keys2) cc
+returns-2 c = rw (c .before .match .keys2, c .expr-if2 .ensures, c .before .before .zeros .ensures, c .before .before .before .wide .ensures .0)
 
 returns-3 : tie.Need-returns-3
 unfolding exprOf
-returns-3 c = rw (c .before .match .keys3) cc
+returns-3 c = rw (c .before .match .keys3, c .expr-if3 .ensures, c .before .before .zeros .ensures, c .before .before .before .wide .ensures .0)
 
 returns-4 : tie.Need-returns-4
 unfolding exprOf
-returns-4 c = rw (c .before .before .match .keys4) cc
+returns-4 c = rw (c .before .before .match .keys4, c .expr-if4 .ensures, c .before .unary-expr .ensures)
 
 returns-5 : tie.Need-returns-5
 unfolding exprOf
-returns-5 c = rw (c .before .match .keys5) cc
+returns-5 c = rw (c .before .match .keys5, c .binary-expr .ensures)
 
 returns-6 : tie.Need-returns-6
-returns-6 c = sym (no-expr _ _ _ _ λ l. up (up (up (up (up l (c .match .rest .0 .0 .0 .0 .1)) (c .match .rest .0 .0 .0 .1)) (c .match .rest .0 .0 .1)) (c .match .rest .0 .1)) (c .match .rest .1))
+returns-6 c = sym (no-expr _ _ _ _ λ l. omega arith)
 
 pub expr-of-spec : {M : Type 1} → statement M
 expr-of-spec =

@@ -1,11 +1,8 @@
-use Rattle.rules.specs.Recipe.{stmt}
+-- `tables::stmt_at` meets its contract: each field is read where the record has it. Assumes nothing.
 use borrow.Author.Needs.{needs}
+use Rattle.rules.specs.Recipe.{stmt}
 use Rattle.tables.proofs.stmt_at.Statement.{statement}
 use Rattle.tables.proofs.stmt_at.Tie as tie
-use Rattle.tables.proofs.stmt_at.Reads as reads
-use Rattle.tables.proofs.stmt_at.Lts as lts
-use Rattle.tables.proofs.half_at.Reads as half-at-reads
-use Rattle.tables.proofs.stmt_of.Reads as stmt-of-reads
 
 half-at-requires : tie.Need-half-at-requires
 half-at-requires c κs = search needs
@@ -54,7 +51,7 @@ stmt-of-requires c κs = search needs
 
 returns : tie.Need-returns
 unfolding stmt
-returns c = cc
+returns c = rw (c .stmt-of .ensures, c .before .before .before .before .before .half-at2 .ensures .0, c .before .before .before .before .half-at3 .ensures .0, c .before .before .before .half-at4 .ensures .0, c .before .before .before .before .before .before .half-at .ensures .0)
 
 pub stmt-at-spec : {M : Type 1} → statement M
 stmt-at-spec =

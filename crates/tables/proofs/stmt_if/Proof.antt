@@ -1,8 +1,7 @@
+-- `tables::stmt_if` meets its contract. Assumes nothing.
 use Rattle.rules.specs.Recipe.{stmtIf}
 use Rattle.tables.proofs.stmt_if.Statement.{statement}
 use Rattle.tables.proofs.stmt_if.Tie as tie
-use Rattle.tables.proofs.stmt_if.Reads as reads
-use Rattle.tables.proofs.stmt_if.Lts as lts
 
 returns : tie.Need-returns
 unfolding stmtIf

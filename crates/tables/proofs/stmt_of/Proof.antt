@@ -1,17 +1,11 @@
+-- `tables::stmt_of` meets its contract, kind by kind. Assumes nothing.
 use Prim.Native.Nat.{_≤_}
-use lib.Dec.{eqb}
 use lib.ListN.{List·getD-eq-default}
-use Rattle.rules.specs.declared.Stmt.the-variants.{Skip}
-use Rattle.rules.specs.Recipe.{stmtOf}
-use Rattle.tables.proofs.Fields.{zero-le, up, all-unused}
 use borrow.Author.Needs.{needs}
+use Rattle.rules.specs.Recipe.{stmtOf}
+use Rattle.tables.proofs.Fields.{past, all-unused}
 use Rattle.tables.proofs.stmt_of.Statement.{statement}
 use Rattle.tables.proofs.stmt_of.Tie as tie
-use Rattle.tables.proofs.stmt_of.Reads as reads
-use Rattle.tables.proofs.stmt_of.Lts as lts
-use Rattle.tables.proofs.stmt_if.Reads as stmt-if-reads
-use Rattle.tables.proofs.wide.Reads as wide-reads
-use Rattle.tables.proofs.zeros.Reads as zeros-reads
 
 wide-requires : tie.Need-wide-requires
 wide-requires c κs = search needs
@@ -51,35 +45,39 @@ stmt-if-requires-8 c κs = search needs
 
 returns : tie.Need-returns
 unfolding stmtOf
-returns c = rw (c .before .before .before .match .keys1) (cc (all-unused (eqb (c .before .before .before .before .before .before .args .port) 0) (eqb (c .before .before .before .before .before .before .args .a) 0) (eqb (c .before .before .before .before .before .before .args .b) 0) (eqb (c .before .before .before .before .before .before .args .c) 0) Skip))
+returns c =
+    rw (c .before .before .before .match .keys1, c .stmt-if2 .ensures, c .before .stmt-if .ensures, c .before .before .zeros2 .ensures, c .before .before .before .before .zeros .ensures, c .before .before .before .before .before .wide .ensures .0)
+    (all-unused _ _ _ _ _)
 
 returns-2 : tie.Need-returns-2
 unfolding stmtOf
-returns-2 c = rw (c .before .match .keys2) cc
+returns-2 c = rw (c .before .match .keys2, c .stmt-if3 .ensures, c .before .before .zeros .ensures, c .before .before .before .wide .ensures .0)
 
 returns-3 : tie.Need-returns-3
 unfolding stmtOf
-returns-3 c = rw (c .before .match .keys3) cc
+returns-3 c = rw (c .before .match .keys3, c .stmt-if4 .ensures, c .before .before .zeros .ensures, c .before .before .before .wide .ensures .0)
 
 returns-4 : tie.Need-returns-4
 unfolding stmtOf
-returns-4 c = rw (c .before .match .keys4) cc
+returns-4 c = rw (c .before .match .keys4, c .stmt-if5 .ensures, c .before .before .zeros .ensures, c .before .before .before .wide .ensures .0)
 
 returns-5 : tie.Need-returns-5
 unfolding stmtOf
-returns-5 c = rw (c .before .match .keys5) cc
+returns-5 c = rw (c .before .match .keys5, c .stmt-if6 .ensures)
 
 returns-6 : tie.Need-returns-6
 unfolding stmtOf
-returns-6 c = rw (c .before .match .keys6) cc
+returns-6 c = rw (c .before .match .keys6, c .stmt-if7 .ensures, c .before .before .zeros .ensures, c .before .before .before .wide .ensures .0)
 
 returns-7 : tie.Need-returns-7
 unfolding stmtOf
-returns-7 c = rw (c .before .before .match .keys7) cc
+returns-7 c = rw (c .before .before .match .keys7, c .stmt-if8 .ensures, c .before .zeros3 .ensures)
 
 returns-8 : tie.Need-returns-8
 unfolding stmtOf
-returns-8 c = let h : 7 ≤ c .before .before .before .args .kind = (up (up (up (up (up (up (up (zero-le _) (c .match .rest .0 .0 .0 .0 .0 .0 .1)) (c .match .rest .0 .0 .0 .0 .0 .1)) (c .match .rest .0 .0 .0 .0 .1)) (c .match .rest .0 .0 .0 .1)) (c .match .rest .0 .0 .1)) (c .match .rest .0 .1)) (c .match .rest .1)) in rw List·getD-eq-default
+returns-8 c =
+    let h : 7 ≤ c .before .before .before .args .kind = past 7 _ (c .match .rest) in
+    rw List·getD-eq-default
 
 pub stmt-of-spec : {M : Type 1} → statement M
 stmt-of-spec =

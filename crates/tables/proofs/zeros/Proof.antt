@@ -1,9 +1,8 @@
+-- `tables::zeros` meets its contract. Assumes nothing.
 use borrow.Author.Tests.{eq-eqb, ne-eqb}
 use Rattle.rules.specs.Checks.{_and_}
 use Rattle.tables.proofs.zeros.Statement.{statement}
 use Rattle.tables.proofs.zeros.Tie as tie
-use Rattle.tables.proofs.zeros.Reads as reads
-use Rattle.tables.proofs.zeros.Lts as lts
 
 returns : tie.Need-returns
 unfolding _and_
