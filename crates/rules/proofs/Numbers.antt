@@ -104,8 +104,8 @@ numbered-recipe r =
     numbered-then (numbered-require _ _ tt (omega arith)) λ _.
     numbered-then
     (numbered-up (R .exprs) λ e l.
-      let b : e < 65536 = omega (arith, few .few-exprs) in
-      numbered-then (numbered-require _ _ tt b) λ _. numbered-require _ _ tt b) λ _.
+    let b : e < 65536 = omega (arith, few .few-exprs) in
+    numbered-then (numbered-require _ _ tt b) λ _. numbered-require _ _ tt b) λ _.
     numbered-up (R .stmts) λ s l. numbered-require _ _ tt (omega (arith, few .few-stmts))
 
 numbered-policy : (p : List ℕ) → Numbered (checkPolicy p)
@@ -115,8 +115,8 @@ numbered-policy p =
     let few = header-counts p (required _ _ h) in
     numbered-then
     (numbered-up _ λ i l.
-      let b : 8 + i < 65536 = omega (arith, few .0, few .1, mul-le-mul-left (byte p 6) (few .0)) in
-      numbered-require _ _ tt b) λ _.
+    let b : 8 + i < 65536 = omega (arith, few .0, few .1, mul-le-mul-left (byte p 6) (few .0)) in
+    numbered-require _ _ tt b) λ _.
     numbered-require _ _ tt (omega arith)
 
 numbered-checks : (r p m : List ℕ) → Numbered (checks r p m)
