@@ -3,3 +3,4 @@ pub mod Places
 pub mod Records
 pub mod Report
 pub mod Check
+pub mod Determined

@@ -3,3 +3,4 @@ pub mod Answers
 pub mod Shape
 pub mod Laws
 pub mod House
+pub mod Determined

@@ -1,2 +1,3 @@
 pub mod Order
 pub mod Spreads
+pub mod Determined

@@ -20,7 +20,7 @@ use Rattle.rules.specs.Judged.{Judged, refused, writtenBack, ran, checks
 use Rattle.rules.specs.Accepted.{WellTagged, Accepted}
 use Rattle.rules.specs.Views.{Agreeing, Secret}
 use Rattle.rules.proofs.Accepts.{accepted, not-refused}
-use Rattle.rules.proofs.Growth.{stepsFrom, within-budget}
+use Rattle.rules.proofs.Growth.{stepsFrom, recordsFrom, within-budget, few-records}
 use Rattle.rules.proofs.Standing.{LeftBy, left-run, standing-start}
 use Rattle.rules.proofs.Bytes.{sound, places-ok, length-places, places-back, length-bytes, records-back, length-records}
 use Rattle.rules.proofs.Secrecy.{endFrom, Close, Start, viewer, close, agreeing}
@@ -91,18 +91,20 @@ refusal-untouched r p m q budget {x} e = by-checks (checks r p m) refl
 -- steps never exceed the budget, records fit the room, bytes after the records stay, and no buffer changes its length
 pub record Kept (m q : List ℕ) (budget : ℕ) (x : Judged) : Type 0 where
   pub within-budget : x .outcome .steps ≤ budget
+  pub few-records : x .outcome .records ≤ budget
   pub records-fit : 5 * x .outcome .records ≤ length q
   pub tail-stays : drop (5 * x .outcome .records) (x .room) ≡ drop (5 * x .outcome .records) q
   pub room-length : length (x .room) ≡ length q
   pub memory-length : length (x .memory) ≡ length m
 
-kept-run : (P : Policy) (R : Recipe) (m q : List ℕ) (budget : ℕ) (x : Result) → length m ≡ 5 * count R → stepsFrom x ≤ budget → LeftBy P R (length q) x
+kept-run : (P : Policy) (R : Recipe) (m q : List ℕ) (budget : ℕ) (x : Result) → length m ≡ 5 * count R → stepsFrom x ≤ budget → length (recordsFrom x) ≤ budget → LeftBy P R (length q) x
     → Kept m q budget (writtenBack q x)
 unfolding writtenBack
-kept-run P R m q budget (result e k m′ s) long few l =
+kept-run P R m q budget (result e k m′ s) long steps records l =
     let n : length (recordBytes s) ≡ 5 * length s = length-records s in
     record {
-      within-budget = few;
+      within-budget = steps;
+      few-records = records;
       records-fit = l .fits;
       tail-stays = drop-at (recordBytes s) (drop (5 * length s) q) (5 * length s) n;
       room-length = omega (arith, length-append (recordBytes s) (drop (5 * length s) q), length-drop (5 * length s) q, l .fits);
@@ -127,13 +129,14 @@ kept r p m q br bm budget = by-checks (checks r p m) refl
     by-checks : (c : Checked) → checks r p m ≡ c → Kept m q budget (judged r p m q budget)
     by-checks (Failed y) f =
         rw (judged-refused r p m q budget f)
-        (record { within-budget = omega arith; records-fit = omega arith; tail-stays = refl; room-length = refl; memory-length = refl })
+        (record { within-budget = omega arith; few-records = omega arith; records-fit = omega arith; tail-stays = refl; room-length = refl; memory-length = refl })
     by-checks Passed f =
         let a = accepted r p m f in
         let R = recipeOf r in
         rw (judged-ran r p m q budget f)
         (kept-run (policyOf p) R m q budget (ran r p m (length q) budget) (a .memory .long)
-        (within-budget (policyOf p) R (length q) budget (start R (placesOf R m))) (left-by r p m br bm a (length q) budget))
+        (within-budget (policyOf p) R (length q) budget (start R (placesOf R m)))
+        (omega (arith, few-records (policyOf p) R (length q) budget 0 (start R (placesOf R m)))) (left-by r p m br bm a (length q) budget))
 
 -- the memory that a run leaves is accepted again
 pub accepted-again : (r p m q : List ℕ) → Bytes r → Bytes m → (budget : ℕ) → Accepted r p m → Accepted r p (judged r p m q budget .memory)

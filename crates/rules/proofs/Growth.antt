@@ -4,6 +4,7 @@ use native.Mathlib.Omega.{arith}
 use mathlib.Core.Path.{refl}
 use mathlib.Core.Bool.{Bool, true, false}
 use mathlib.Core.List.{List, [], _∷_, _++_, append-nil, append-assoc}
+use lib.ListN.{length, length-append}
 use Rattle.rules.specs.declared.Stop.{Stop}
 use Rattle.rules.specs.declared.Frame.{Frame}
 use Rattle.rules.specs.declared.Frame.the-variants.{Next, Join, Loop}
@@ -15,7 +16,7 @@ use Rattle.rules.specs.declared.Again.{Again}
 use Rattle.rules.specs.declared.Again.the-variants.{Repeats, Leaves, Fails}
 use Rattle.rules.specs.Policy.{Policy}
 use Rattle.rules.specs.Recipe.{Recipe}
-use Rattle.rules.specs.Memory.{Memory, Record}
+use Rattle.rules.specs.Memory.{Memory, Record, out}
 use Rattle.rules.specs.Steps.{State, state, recordsIn, Turn, Goes, Halts, Finished, check, begins, repeats, loopIn, performs, takes, step}
 use Rattle.rules.specs.Run.{Result, result, follow, run}
 use Rattle.rules.specs.Views.{Begins}
@@ -30,7 +31,7 @@ stepsFrom (result e k m r) = k
 pub data Grows (r : List Record) : Turn → Type 0 where
   halts : {h : Stop} {s : ℕ} → Grows r (Halts h s)
   finishes : Grows r Finished
-  goes : {y : State} → Begins r (recordsIn y) → Grows r (Goes y)
+  goes : {y : State} → Begins r (recordsIn y) → length (recordsIn y) ≤ suc (length r) → Grows r (Goes y)
 
 begins-self : {r : List Record} → Begins r r
 begins-self {r} = record { rest = []; whole = append-nil r }
@@ -39,7 +40,7 @@ begins-trans : {r q p : List Record} → Begins r q → Begins q p → Begins r 
 begins-trans {r} w v = record { rest = w .rest ++ v .rest; whole = cc (append-assoc r (w .rest) (v .rest), w .whole, v .whole) }
 
 keeps : {b : ℕ} {n : Waiting} {l : List Frame} {m : Memory} {r : List Record} → Grows r (Goes (state b n l m r))
-keeps = goes begins-self
+keeps {r = r} = let l : length r ≤ suc (length r) = omega arith in goes begins-self l
 
 grows-check : (a : Bool) (h : Stop) (s : ℕ) {r : List Record} {x : Turn} → Grows r x → Grows r (check a h s x)
 unfolding check
@@ -51,7 +52,9 @@ module _ (R : Recipe) (room s b : ℕ) (l : List Frame) (m : Memory) (r : List R
   grows-performs Passes = keeps
   grows-performs (Pushes f a t) = grows-check _ _ _ keeps
   grows-performs (Writes i p) = keeps
-  grows-performs (Records port v) = grows-check _ _ _ (goes record { rest = _; whole = refl })
+  grows-performs (Records port v) =
+      let l : length (r ++ (out port v ∷ [])) ≤ suc (length r) = omega (arith, length-append r (out port v ∷ [])) in
+      grows-check _ _ _ (goes (record { rest = _; whole = refl }) l)
   grows-performs (Stops h) = halts
 
   grows-takes : (t : ℕ) (x : Again) → Grows r (takes R room s b l m r t x)
@@ -71,14 +74,27 @@ module _ (P : Policy) (R : Recipe) (room : ℕ) where
   unfolding follow
   grows-follow zero k x halts = begins-self
   grows-follow zero k x finishes = begins-self
-  grows-follow zero k x (goes w) = begins-self
+  grows-follow zero k x (goes w l) = begins-self
   grows-follow (suc n) k x halts = begins-self
   grows-follow (suc n) k x finishes = begins-self
-  grows-follow (suc n) k x (goes {y = y} w) = begins-trans w (grows-follow n (suc k) y (grows-step y))
+  grows-follow (suc n) k x (goes {y = y} w l) = begins-trans w (grows-follow n (suc k) y (grows-step y))
 
   -- records only grow
   pub grows-run : (n k : ℕ) (x : State) → Begins (recordsIn x) (recordsFrom (run P R room n k x))
   grows-run n k x = grows-follow n k x (grows-step x)
+
+  few-follow : (n k : ℕ) (x : State) {t : Turn} → Grows (recordsIn x) t → length (recordsFrom (follow P R room n k x t)) ≤ n + length (recordsIn x)
+  unfolding follow
+  few-follow zero k x halts = omega arith
+  few-follow zero k x finishes = omega arith
+  few-follow zero k x (goes w l) = omega arith
+  few-follow (suc n) k x halts = omega arith
+  few-follow (suc n) k x finishes = omega arith
+  few-follow (suc n) k x (goes {y = y} w l) = omega (arith, few-follow n (suc k) y (grows-step y))
+
+  -- a step writes one record at most
+  pub few-records : (n k : ℕ) (x : State) → length (recordsFrom (run P R room n k x)) ≤ n + length (recordsIn x)
+  few-records n k x = few-follow n k x (grows-step x)
 
   counted : (n k : ℕ) (x : State) (t : Turn) → stepsFrom (follow P R room n k x t) ≤ n + k
   unfolding follow

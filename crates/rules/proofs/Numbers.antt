@@ -71,6 +71,25 @@ listed (MemoryTag i) k = record { from = omega arith; to = omega arith }
 listed HouseRoom k = absurd k
 listed ReportRoom k = absurd k
 
+-- every refusal is 16 or more
+pub refusal-from : (x : Refusal) → 16 ≤ refusalNumber x
+unfolding refusalNumber
+refusal-from RecipeLength = omega arith
+refusal-from RecipeMark = omega arith
+refusal-from RecipeVersion = omega arith
+refusal-from RecipeHeader = omega arith
+refusal-from (BadExpression e) = omega arith
+refusal-from (WideExpression e) = omega arith
+refusal-from (BadStatement s) = omega arith
+refusal-from PolicyHeader = omega arith
+refusal-from (PolicyEntry i) = omega arith
+refusal-from PolicyLaw = omega arith
+refusal-from (BadPort s) = omega arith
+refusal-from MemoryLength = omega arith
+refusal-from (MemoryTag i) = omega arith
+refusal-from HouseRoom = omega arith
+refusal-from ReportRoom = omega arith
+
 -- a refusal by a check, whose place fits 16 bits
 data Numbered : Checked → Type 0 where
   passed : Numbered Passed

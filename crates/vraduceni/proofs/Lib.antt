@@ -1,1 +1,3 @@
 pub mod Host
+pub mod Demand3
+pub mod Determined
