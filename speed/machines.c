@@ -1,0 +1,11 @@
+#include "machines.h"
+
+const struct named machines[] = {
+    { "plain", plain_judge },
+    { "vraduceni", vraduceni_judge },
+#ifndef NO_RUST
+    { "rust", rust_judge },
+#endif
+    { "literal", literal_judge },
+};
+const uint32_t machine_count = sizeof machines / sizeof machines[0];
