@@ -330,6 +330,10 @@ impl Policy {
         self.join(tag, other) == other
     }
 
+    pub fn ports(&self) -> usize {
+        self.clearances.len()
+    }
+
     /// The clearance of a port that is below the port count.
     pub fn clearance(&self, port: usize) -> Tag {
         self.clearances[port]
@@ -392,7 +396,7 @@ pub fn read_policy(bytes: &[u8]) -> Result<Policy, Stop> {
 fn check_ports(recipe: &Recipe, policy: &Policy) -> Result<(), Stop> {
     for (own, statement) in recipe.statements.iter().enumerate() {
         match *statement {
-            Statement::Emit { port, .. } if port >= policy.clearances.len() => {
+            Statement::Emit { port, .. } if port >= policy.ports() => {
                 return Err(Stop::at(number::PORT, own));
             }
             _ => {}

@@ -135,6 +135,7 @@ fn bench_examples(tally: &mut Tally) {
 }
 
 fn house_policies(tally: &mut Tally) {
+    let mut wrong = Vec::new();
     for length in 0..HOUSE_LENGTHS {
         for poison in 1..=4 {
             let comparison = compare::compare_house_policy(length, poison);
@@ -143,13 +144,14 @@ fn house_policies(tally: &mut Tally) {
                 tally.reach(comparison.number);
             }
             if !comparison.differences.is_empty() {
-                tally.differ += 1;
-                println!(
-                    "house policy in {length} bytes: {}",
-                    comparison.differences.join("; ")
-                );
+                let differences = comparison.differences.join("; ");
+                wrong.push(format!("house policy in {length} bytes: {differences}"));
             }
         }
+    }
+    tally.differ += wrong.len() as u64;
+    for line in wrong.iter().take(MOST_SHOWN) {
+        println!("{line}");
     }
 }
 

@@ -197,9 +197,10 @@ fn start(random: &mut Random, memory: &[Place]) -> Start {
             true => 400,
             false => random.below(40),
         },
-        budget: match random.chance(75) {
-            true => 2_000,
-            false => random.between(1, 40) as u32,
+        budget: match random.weighted(&[14, 5, 1]) {
+            0 => 2_000,
+            1 => random.between(1, 40) as u32,
+            _ => 0,
         },
     }
 }

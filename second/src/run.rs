@@ -16,7 +16,7 @@ const BLOCK: u64 = 64;
 /// Failing cases that are kept; the rest are only counted.
 const MOST_FAILURES: usize = 64;
 /// No case takes a sound machine this long.
-const PATIENCE: Duration = Duration::from_secs(60);
+const PATIENCE: Duration = Duration::from_secs(30);
 
 #[derive(Clone, Copy, Debug, PartialEq, Eq, PartialOrd, Ord)]
 pub enum Kind {

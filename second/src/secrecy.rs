@@ -73,14 +73,19 @@ fn run(judge: Judge, case: &Case, start: &Start) -> Result<(u32, Vec<u8>, Vec<u8
     Ok((number, memory.content().to_vec(), written.to_vec()))
 }
 
-fn end(judge: Judge, case: &Case, start: &Start, viewer: u8) -> Result<Ended, String> {
+/// A run and what the viewer sees of its records.
+fn end(
+    judge: Judge,
+    case: &Case,
+    start: &Start,
+    policy: &Policy,
+    viewer: u8,
+) -> Result<Ended, String> {
     let (number, memory, records) = run(judge, case, start)?;
-    let policy = machine::read_policy(&case.policy).map_err(|_| "no policy".to_string())?;
-    let ports = usize::from(case.policy[7]);
     let mut visible = Vec::new();
     for record in records.chunks_exact(machine::RECORD_LENGTH) {
         let port = usize::from(record[0]);
-        if port >= ports {
+        if port >= policy.ports() {
             return Err("a record is on a port that is not there".to_string());
         }
         if policy.lies_under(policy.clearance(port), viewer) {
@@ -88,7 +93,7 @@ fn end(judge: Judge, case: &Case, start: &Start, viewer: u8) -> Result<Ended, St
         }
     }
     let places = machine::read_places(&memory);
-    match tags_in_range(&policy, &places) {
+    match tags_in_range(policy, &places) {
         true => Ok(Ended {
             number,
             places,
@@ -120,10 +125,8 @@ pub fn check(judge: Judge, case: &Case) -> Verdict {
     if !is_pair(case, &policy, viewer) {
         return Verdict::NotAPair;
     }
-    match (
-        end(judge, case, &case.starts[0], viewer),
-        end(judge, case, &case.starts[1], viewer),
-    ) {
+    let end = |start: &Start| end(judge, case, start, &policy, viewer);
+    match (end(&case.starts[0]), end(&case.starts[1])) {
         (Ok(first), Ok(second)) => hold_together(&policy, viewer, &first, &second),
         (Err(broken), _) | (_, Err(broken)) => Verdict::Broken(broken),
     }

@@ -97,9 +97,17 @@ pub fn of_trace(trace: &Trace) -> String {
         "number={} report={} memory={} room={}",
         trace.number,
         hex(&trace.report),
-        hex(&trace.memory),
-        hex(&trace.room)
+        beginning(&trace.memory),
+        beginning(&trace.room)
     )
+}
+
+/// As many bytes as can be read at a glance.
+fn beginning(bytes: &[u8]) -> String {
+    match bytes.get(..60) {
+        Some(first) => format!("{}... ({} bytes)", hex(first), bytes.len()),
+        None => hex(bytes),
+    }
 }
 
 /// The records of a small recipe, one a line, for reading.
