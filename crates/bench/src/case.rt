@@ -14,10 +14,11 @@ pub struct Lengths {
     pub report: usize,
 }
 
-// `after` and `written` are the memory and the record room as they must be left; `put` counts the room's bytes so far.
+// `after` and `written` are the memory and the record room as they must be left; `put` counts what `written` holds so
+// far. There is room for a recipe of 514 records, a policy of 17 tags, 8 places of memory and 8 records.
 pub struct Case {
     pub recipe: [u8; 4128],
-    pub policy: [u8; 280],
+    pub policy: [u8; 300],
     pub memory: [u8; 40],
     pub after: [u8; 40],
     pub written: [u8; 40],
@@ -49,7 +50,7 @@ fn high_half(x: u32) -> u16 {
     (x / 65536) as u16
 }
 
-pub fn with_byte(mut b: [u8; 40], o: usize, x: u8) -> [u8; 40] {
+fn with_byte(mut b: [u8; 40], o: usize, x: u8) -> [u8; 40] {
     if o < 40 {
         b[o] = x;
     }
@@ -82,8 +83,8 @@ fn with_place(b: [u8; 40], i: usize, value: u32, tag: u8) -> [u8; 40] {
 }
 
 // A policy's header, and filler for the entries.
-pub fn policy_header(tags: u8, ports: u8) -> [u8; 280] {
-    let mut p = [FILLER; 280];
+pub fn policy_header(tags: u8, ports: u8) -> [u8; 300] {
+    let mut p = [FILLER; 300];
     p[0] = 0x52;
     p[1] = 0x4A;
     p[2] = 0x50;
@@ -96,7 +97,7 @@ pub fn policy_header(tags: u8, ports: u8) -> [u8; 280] {
 }
 
 // Two tags, of which port 0 is cleared for the first and port 1 for both.
-fn two_tags() -> [u8; 280] {
+fn two_tags() -> [u8; 300] {
     let mut p = policy_header(2, 2);
     p[8] = 0;
     p[9] = 1;
@@ -126,7 +127,7 @@ fn recipe_header(e: u16, s: u16, v: u16, m: u16) -> [u8; 4128] {
 }
 
 impl Case {
-    // E, S, V and M; the two-tag policy, no memory, no room, and a budget that no example but the longest uses up.
+    // E, S, V and M; the two-tag policy, no memory, no room, and a budget to end by only where an example sets its own.
     pub fn of(e: u16, s: u16, v: u16, m: u16) -> Case {
         Case {
             recipe: recipe_header(e, s, v, m),
@@ -226,7 +227,7 @@ impl Case {
     // ---- the other inputs
 
     pub fn house(mut self) -> Case {
-        let mut p = [0u8; 280];
+        let mut p = [0u8; 300];
         policy::house_policy(&mut p);
         self.policy = p;
         self.lengths.policy = 266;
@@ -276,7 +277,7 @@ impl Case {
     }
 
     pub fn policy_byte(mut self, o: usize, x: u8) -> Case {
-        if o < 280 {
+        if o < 300 {
             self.policy[o] = x;
         }
         self

@@ -27,7 +27,7 @@ fn binaries(t: Tally) -> Tally {
     operands(t, b"1 % 0", op::REM, 0, 1, 6)
 }
 
-// Where h, of tag 1, is true, carry out statement 1, whose clean target or port then fails its tag check.
+// if h then statement 1 else skip, with h true and of tag 1, and a clean variable and a clean cell to write.
 fn marked(c: Case) -> Case {
     c.if_else(4, 1, 0).place(1, 1).place(7, 0).place(8, 0)
 }

@@ -1,4 +1,4 @@
-// Examples of the C host's entry and of the house policy, and document 01's own bytes.
+// Examples of the C host's entry, with its report, and of the house policy.
 use crate::case::Case;
 use crate::runs;
 use crate::tags;
@@ -37,7 +37,7 @@ fn entries(t: Tally) -> Tally {
 }
 
 fn houses(t: Tally) -> Tally {
-    let t = t.housed(b"house policy into 280 bytes", 280, 0);
+    let t = t.housed(b"house policy into 300 bytes", 300, 0);
     let t = t.housed(b"house policy into 266 bytes", 266, 0);
     let t = t.housed(b"house policy into 265 bytes", 265, 29);
     t.housed(b"house policy into nothing", 0, 29)

@@ -171,8 +171,10 @@ fn policies(t: Tally) -> Tally {
     let t = refused(t, b"policy version", c.policy_byte(3, 2), 23, 0);
     let t = refused(t, b"policy byte 5", c.policy_byte(5, 1), 23, 0);
     let t = refused(t, b"policy of 0 tags", c.policy_byte(6, 0), 23, 0);
-    let t = refused(t, b"policy of 17 tags", c.policy_byte(6, 17), 23, 0);
-    let t = refused(t, b"policy of 17 ports", c.policy_byte(7, 17), 23, 0);
+    let tags = c.policy_byte(6, 17).policy_length(299);
+    let t = refused(t, b"policy of 17 tags", tags, 23, 0);
+    let ports = c.policy_byte(7, 17).policy_length(29);
+    let t = refused(t, b"policy of 17 ports", ports, 23, 0);
     let t = refused(t, b"policy a byte short", c.policy_length(13), 23, 0);
     let t = refused(t, b"policy a byte long", c.policy_length(15), 23, 0);
     refused(t, b"policy of no bytes", c.policy_length(0), 23, 0)

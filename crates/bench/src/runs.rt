@@ -17,6 +17,7 @@ pub fn countdown() -> Case {
     c.assign(0, 2).while_do(0, 0)
 }
 
+// The assembler agrees with the bytes that document 01 gives.
 fn spelled(t: Tally) -> Tally {
     t.spelled(
         b"countdown, its bytes",

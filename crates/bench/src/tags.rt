@@ -22,11 +22,37 @@ fn branches(t: Tally) -> Tally {
     let c = lesson().place(0, 1).place(1, 1).leaves(0, 1, 1);
     let t = t.tried(b"P7 x with tag 1", c, 0, 0, 3, 0);
     let c = lesson().place(0, 0).place(minus(5), 0).leaves(0, 1, 0);
-    let t = t.tried(b"h = -5 is true", c, 0, 0, 3, 0);
-    let c = Case::of(2, 4, 2, 0).variable(0).constant(1).skip();
-    let c = c.if_else(0, 0, 0).assign(1, 1).then(1, 2);
-    let c = c.place(1, 1).place(0, 0).leaves(1, 1, 0);
-    t.tried(b"after a marked branch z := 1", c, 0, 0, 6, 0)
+    t.tried(b"h = -5 is true", c, 0, 0, 3, 0)
+}
+
+// (if h then skip else skip), then x := 1.
+fn restored() -> Case {
+    let c = Case::of(2, 4, 2, 0).variable(1).constant(1);
+    c.skip().assign(0, 1).if_else(0, 0, 0).then(2, 1)
+}
+
+// if h then (if 1 then x := 1 else skip) else skip.
+fn inner() -> Case {
+    let c = Case::of(2, 4, 2, 0).variable(1).constant(1);
+    c.skip().assign(0, 1).if_else(1, 1, 0).if_else(0, 2, 0)
+}
+
+// if h then ((if 1 then skip else skip), then x := 1) else skip.
+fn restored_inside() -> Case {
+    let c = Case::of(2, 5, 2, 0).variable(1).constant(1);
+    let c = c.skip().assign(0, 1).if_else(1, 0, 0);
+    c.then(2, 1).if_else(0, 3, 0)
+}
+
+fn joins(t: Tally) -> Tally {
+    let c = restored().place(0, 0).place(1, 1).leaves(0, 1, 0);
+    let t = t.tried(b"after a marked branch x := 1", c, 0, 0, 6, 0);
+    let c = restored().place(0, 0).place(0, 1).leaves(0, 1, 0);
+    let t = t.tried(b"after a marked branch not taken", c, 0, 0, 6, 0);
+    let c = inner().place(0, 0).place(1, 1);
+    let t = t.tried(b"clean branch in a marked branch", c, 2, 1, 3, 0);
+    let c = restored_inside().place(0, 0).place(1, 1);
+    t.tried(b"after a clean branch in a marked one", c, 2, 1, 7, 0)
 }
 
 // ---- loops
@@ -36,6 +62,13 @@ fn copied() -> Case {
     let c = Case::of(3, 5, 3, 0);
     let c = c.variable(0).constant(1).variable(2);
     c.skip().assign(1, 1).assign(0, 2).then(1, 2).while_do(0, 3)
+}
+
+// if h then (while 1 do y := 1) else skip.
+fn endless() -> Case {
+    let c = Case::of(2, 4, 2, 0).variable(0).constant(1);
+    let c = c.assign(1, 1).while_do(1, 0).skip();
+    c.if_else(0, 1, 2)
 }
 
 // while h do h := h - 1, then z := 1.
@@ -62,7 +95,10 @@ fn repeated_tests(t: Tally) -> Tally {
     let t = t.tried(b"loop left by a marked value", c, 0, 0, 6, 0);
     let c = copied().house().place(1, 1).place(0, 1).place(1, 2);
     let c = c.leaves(0, 1, 3).leaves(1, 1, 1);
-    t.tried(b"repeated test joins a second camera", c, 2, 1, 8, 0)
+    let t = t.tried(b"repeated test joins a second camera", c, 2, 1, 8, 0);
+    let c = endless().place(1, 1).place(0, 1);
+    let c = c.leaves(1, 1, 1).budget(5);
+    t.tried(b"repeated clean test keeps the branch tag", c, 1, 0, 5, 0)
 }
 
 // The branch tag after a loop is that of its beginning.
@@ -160,7 +196,7 @@ fn choices(t: Tally) -> Tally {
 
 // ---- room
 
-// emit 7, then -2, on port 1.
+// emit 7, then -2, on port 1; the first is written in every example.
 pub fn two_records() -> Case {
     let c = Case::of(2, 3, 0, 0).constant(7).constant(minus(2));
     let c = c.emit(1, 0).emit(1, 1).then(0, 1);
@@ -187,6 +223,7 @@ fn rooms(t: Tally) -> Tally {
 
 pub fn all(t: Tally) -> Tally {
     let t = branches(t);
+    let t = joins(t);
     let t = repeated_tests(t);
     let t = after_loops(t);
     let t = stores(t);

@@ -123,7 +123,7 @@ fn judge_first(
 // Takes arrays, whose lengths their types say, so that lending them asks no proof.
 fn judge(
     recipe: &[u8; 4128],
-    policy: &[u8; 280],
+    policy: &[u8; 300],
     memory: &mut [u8; 40],
     room: &mut [u8; 40],
     report: &mut [u8; 40],
@@ -140,7 +140,7 @@ fn same(a: &[u8; 40], b: &[u8; 40]) -> bool {
     check::same(a, b)
 }
 
-fn same_policy(a: &[u8; 280], b: &[u8; 280]) -> bool {
+fn same_policy(a: &[u8; 300], b: &[u8; 300]) -> bool {
     check::same(a, b)
 }
 
@@ -153,7 +153,7 @@ fn same_numbers(a: Report, b: Report) -> bool {
 }
 
 // Entry (a,b) is the union of the two sets: as document 01 words it, not as the library writes it.
-fn with_unions(mut p: [u8; 280]) -> [u8; 280] {
+fn with_unions(mut p: [u8; 300]) -> [u8; 300] {
     for i in 0..256 {
         let x = i as u8;
         p[8 + i] = x / 16 | x % 16;
@@ -162,9 +162,9 @@ fn with_unions(mut p: [u8; 280]) -> [u8; 280] {
 }
 
 // What a buffer of filler must hold after the call: the house policy for 0, nothing new for 29.
-fn house_of(number: u32) -> [u8; 280] {
+fn house_of(number: u32) -> [u8; 300] {
     if number != 0 {
-        return [FILLER; 280];
+        return [FILLER; 300];
     }
     let mut p = with_unions(policy_header(16, 2));
     p[264] = 0;
@@ -260,9 +260,9 @@ impl Tally {
 
     // The house policy into a buffer of n bytes.
     pub fn housed(self, name: &[u8], n: usize, number: u32) -> Tally {
-        let mut out = [FILLER; 280];
+        let mut out = [FILLER; 300];
         let mut got = 0;
-        if n <= 280 {
+        if n <= 300 {
             got = policy::house_policy(&mut out[0..n]);
         }
         let left = house_of(number);
