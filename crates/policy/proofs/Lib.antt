@@ -1,5 +1,4 @@
 pub mod Sizes
-pub mod Answers
 pub mod Shape
 pub mod Laws
 pub mod House

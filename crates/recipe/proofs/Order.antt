@@ -1,19 +1,18 @@
 -- The order of a recipe's checks: which of them decides where a test of the header fails, and the whole by its parts. Assumes nothing.
 use Prim.Native.Nat.{ℕ, _+_, _*_, _<_, _≤_}
 use native.Mathlib.Omega.{arith}
-use mathlib.Core.Path.{_≡_, refl, sym, _∙_}
-use mathlib.Core.Bool.{Bool, true, false, not}
+use mathlib.Core.Path.{_≡_, refl, sym}
+use mathlib.Core.Bool.{Bool, true, false}
 use mathlib.Core.List.{List}
 use lib.ListN.{length}
-use borrow.Author.Tests.{eqb-true, not-true, not-false, le-leb, lt-leb, eq-eqb, ne-eqb}
+use borrow.Author.Tests.{eqb-true, le-leb, lt-leb, eq-eqb, ne-eqb}
 use Rattle.rules.specs.declared.Refusal.the-variants.{RecipeLength, RecipeMark, RecipeVersion, RecipeHeader}
 use Rattle.rules.specs.declared.Checked.{Checked}
 use Rattle.rules.specs.declared.Checked.the-variants.{Passed, Failed}
 use Rattle.rules.specs.Bytes.{half}
 use Rattle.rules.specs.Checks.{_and_, require, _andThen_, upTo}
-use Rattle.rules.specs.Recipe.{recipeOf, markOk, zerosOk, countsOk, checkExpr, checkStmt, checkRecipe}
+use Rattle.rules.specs.Recipe.{recipeOf, markOk, zerosOk, countsOk, checkExpr, checkStmt, checkHeader, checkRecipe}
 use Rattle.rules.proofs.Checks.{required, second}
-use Rattle.recipe.specs.Header.{checkHeader}
 
 -- ---- tests
 
@@ -22,14 +21,6 @@ pub any-and-false : (a : Bool) → (a and false) ≡ false
 unfolding _and_
 any-and-false true = refl
 any-and-false false = refl
-
--- a function's answer b to the test t, where the code goes by `!b`
-
-pub denied : {b t : Bool} → b ≡ t → not b ≡ true → t ≡ false
-denied e h = sym e ∙ not-true _ h
-
-pub held : {b t : Bool} → b ≡ t → not b ≡ false → t ≡ true
-held e h = sym e ∙ not-false _ h
 
 -- ---- the header, test by test
 
@@ -72,15 +63,10 @@ pub exact : (r : List ℕ) → checkHeader r ≡ Passed → length r ≡ 16 + 8 
 unfolding checkHeader
 exact r h = eqb-true _ _ (required _ _ (second _ _ (second _ _ (second _ _ (second _ _ h)))))
 
-regroup : (c d e : Checked) → (c andThen d) andThen e ≡ c andThen (d andThen e)
-unfolding _andThen_
-regroup Passed d e = refl
-regroup (Failed x) d e = refl
-
 pub whole : (r : List ℕ)
     → checkHeader r andThen (upTo (half r 6) (checkExpr (recipeOf r)) andThen upTo (half r 8) (checkStmt (recipeOf r))) ≡ checkRecipe r
-unfolding checkHeader checkRecipe
-whole r = rw (regroup, regroup, regroup, regroup)
+unfolding checkRecipe
+whole r = refl
 
 -- ---- the end of a loop upwards
 

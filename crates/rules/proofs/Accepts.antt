@@ -15,7 +15,7 @@ use Rattle.rules.specs.declared.Stmt.the-variants.{Skip, Assign, Store, 
 use Rattle.rules.specs.declared.Checked.the-variants.{Passed}
 use Rattle.rules.specs.Bytes.{byte, half}
 use Rattle.rules.specs.Checks.{_and_, require, _andThen_, upTo, every}
-use Rattle.rules.specs.Recipe.{Recipe, recipeOf, markOk, zerosOk, countsOk, exprOk, stmtOk, spread, checkExpr, checkStmt, checkRecipe, portOk, checkPorts}
+use Rattle.rules.specs.Recipe.{Recipe, recipeOf, markOk, zerosOk, countsOk, exprOk, stmtOk, spread, checkExpr, checkStmt, checkHeader, checkRecipe, portOk, checkPorts}
 use Rattle.rules.specs.Policy.{Policy, policyOf, policyHeaderOk, lawAt, lawsOk, checkEntry, checkPolicy}
 use Rattle.rules.specs.Memory.{tagOf, placeAt, count, placesOf, checkTag, checkMemory}
 use Rattle.rules.specs.Judged.{checks}
@@ -131,24 +131,23 @@ three-back : (a b c x y z : ℕ) → (a ≡ x) × (b ≡ y) × (c ≡ z) → (eq
 three-back a b c x y z h = and-both (and-both (eq-eqb a x (h .0)) (eq-eqb b y (h .1))) (eq-eqb c z (h .2))
 
 pub recipe-well-formed : (r : List ℕ) → checkRecipe r ≡ Passed → WellFormed r
-unfolding checkRecipe markOk zerosOk
+unfolding checkRecipe checkHeader markOk zerosOk
 recipe-well-formed r h =
     let R = recipeOf r in
-    let h1 = second _ _ h in
+    let records = second _ _ h in
+    let h1 = second _ _ (first _ _ h) in
     let h2 = second _ _ h1 in
     let h3 = second _ _ h2 in
-    let h4 = second _ _ h3 in
-    let h5 = second _ _ h4 in
     let head = required _ _ (first _ _ h3) in
     let zeros = and-left _ _ head in
-    let expr = up-each (R .exprs) (checkExpr R) (first _ _ h5) in
-    let stmt = up-each (R .stmts) (checkStmt R) (second _ _ h5) in
+    let expr = up-each (R .exprs) (checkExpr R) (first _ _ records) in
+    let stmt = up-each (R .stmts) (checkStmt R) (second _ _ records) in
     record {
       mark = three _ _ _ _ _ _ (required _ _ (first _ _ h1));
       version = eqb-true _ _ (required _ _ (first _ _ h2));
       zeros = (eqb-true _ _ (and-left _ _ zeros), eqb-true _ _ (and-right _ _ zeros));
       counts = counts R (and-right _ _ head);
-      long = eqb-true _ _ (required _ _ (first _ _ h4));
+      long = eqb-true _ _ (required _ _ (second _ _ h3));
       ordered = record {
         exprs-ok = λ e l. expr-ok _ _ _ (required _ _ (first _ _ (expr e l)));
         stmts-ok = λ s l. stmt-ok _ _ _ _ (required _ _ (stmt s l));
@@ -157,18 +156,19 @@ recipe-well-formed r h =
     }
 
 pub well-formed-recipe : (r : List ℕ) → WellFormed r → checkRecipe r ≡ Passed
-unfolding checkRecipe markOk zerosOk
+unfolding checkRecipe checkHeader markOk zerosOk
 well-formed-recipe r w =
     let R = recipeOf r in
-    both-pass (passes _ (le-leb 16 (length r) (omega (arith, w .long))))
+    both-pass
+    (both-pass (passes _ (le-leb 16 (length r) (omega (arith, w .long))))
     (both-pass (passes _ (three-back _ _ _ _ _ _ (w .mark)))
     (both-pass (passes _ (eq-eqb _ _ (w .version)))
     (both-pass (passes _ (and-both (and-both (eq-eqb _ _ (w .zeros .0)) (eq-eqb _ _ (w .zeros .1))) (counts-back R (w .counts))))
-    (both-pass (passes _ (eq-eqb _ _ (w .long)))
+    (passes _ (eq-eqb _ _ (w .long)))))))
     (both-pass
     (up-all (R .exprs) (checkExpr R) λ e l.
     both-pass (passes _ (ok-expr _ _ _ (w .ordered .exprs-ok e l))) (passes _ (le-leb _ _ (w .narrow e l))))
-    (up-all (R .stmts) (checkStmt R) λ s l. passes _ (ok-stmt _ _ _ _ (w .ordered .stmts-ok s l))))))))
+    (up-all (R .stmts) (checkStmt R) λ s l. passes _ (ok-stmt _ _ _ _ (w .ordered .stmts-ok s l))))
 
 pub ports-there : (R : Recipe) (ports : ℕ) → checkPorts R ports ≡ Passed → PortsOk R ports
 unfolding checkPorts

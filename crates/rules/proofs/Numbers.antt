@@ -18,13 +18,14 @@ use Rattle.rules.specs.declared.End.the-variants.{Done, Budget, Stopped,
 use Rattle.rules.specs.Bytes.{Bytes, byte}
 use Rattle.rules.specs.Checks.{require, _andThen_, upTo}
 use Rattle.rules.specs.Policy.{Policy, policyOf, checkPolicy}
-use Rattle.rules.specs.Recipe.{Recipe, recipeOf, checkRecipe, checkPorts}
+use Rattle.rules.specs.Recipe.{Recipe, recipeOf, checkHeader, checkRecipe, checkPorts}
 use Rattle.rules.specs.Memory.{count, checkMemory}
 use Rattle.rules.specs.Run.{Result, result}
 use Rattle.rules.specs.Ends.{stopNumber, refusalNumber, refusalPlace, endNumber, endPlace}
 use Rattle.rules.specs.Judged.{writtenBack, ran, checks, judged}
+use Rattle.rules.specs.Accepted.{Counts}
 use Rattle.rules.proofs.Tests.{and-right}
-use Rattle.rules.proofs.Checks.{required}
+use Rattle.rules.proofs.Checks.{required, first, second}
 use Rattle.rules.proofs.Accepts.{counts, header-counts, recipe-well-formed, accepted}
 use Rattle.rules.proofs.Standing.{EndOk, LeftBy}
 use Rattle.rules.proofs.Demands.{judged-refused, judged-ran, left-by}
@@ -111,16 +112,26 @@ unfolding upTo
 numbered-up zero on = passed
 numbered-up (suc n) on = numbered-then (numbered-up n (λ i l. on i (omega arith))) (λ _. on n (omega arith))
 
+numbered-header : (r : List ℕ) → Numbered (checkHeader r)
+unfolding checkHeader refusalPlace
+numbered-header r =
+    numbered-then (numbered-require _ _ tt (omega arith)) λ _.
+    numbered-then (numbered-require _ _ tt (omega arith)) λ _.
+    numbered-then (numbered-require _ _ tt (omega arith)) λ _.
+    numbered-then (numbered-require _ _ tt (omega arith)) λ _.
+    numbered-require _ _ tt (omega arith)
+
+-- the counts that the header's check bounds
+few-records : (r : List ℕ) → checkHeader r ≡ Passed → Counts (recipeOf r)
+unfolding checkHeader
+few-records r h = counts (recipeOf r) (and-right _ _ (required _ _ (first _ _ (second _ _ (second _ _ (second _ _ h))))))
+
 numbered-recipe : (r : List ℕ) → Numbered (checkRecipe r)
 unfolding checkRecipe refusalPlace
 numbered-recipe r =
     let R = recipeOf r in
-    numbered-then (numbered-require _ _ tt (omega arith)) λ _.
-    numbered-then (numbered-require _ _ tt (omega arith)) λ _.
-    numbered-then (numbered-require _ _ tt (omega arith)) λ _.
-    numbered-then (numbered-require _ _ tt (omega arith)) λ h.
-    let few = counts R (and-right _ _ (required _ _ h)) in
-    numbered-then (numbered-require _ _ tt (omega arith)) λ _.
+    numbered-then (numbered-header r) λ h.
+    let few = few-records r h in
     numbered-then
     (numbered-up (R .exprs) λ e l.
     let b : e < 65536 = omega (arith, few .few-exprs) in

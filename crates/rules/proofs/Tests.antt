@@ -1,7 +1,8 @@
 -- Tests and what they say. Assumes nothing.
 use Prim.Native.Nat.{ℕ, zero, suc}
-use mathlib.Core.Path.{_≡_, refl}
-use mathlib.Core.Bool.{Bool, true, false}
+use mathlib.Core.Path.{_≡_, refl, sym, _∙_}
+use mathlib.Core.Bool.{Bool, true, false, not}
+use borrow.Author.Tests.{not-true, not-false}
 use Rattle.rules.specs.Checks.{_and_}
 use Rattle.rules.specs.Steps.{test}
 
@@ -23,6 +24,13 @@ and-both e f = rw (e, f)
 pub fails : (b : Bool) → (b ≡ true → b ≡ false) → b ≡ false
 fails true f = f refl
 fails false f = refl
+
+-- a function's answer b to the test t, where the code goes by `!b`
+pub denied : {b t : Bool} → b ≡ t → not b ≡ true → t ≡ false
+denied e h = sym e ∙ not-true _ h
+
+pub held : {b t : Bool} → b ≡ t → not b ≡ false → t ≡ true
+held e h = sym e ∙ not-false _ h
 
 -- what holds of both cases holds of the one that a value picks
 pub picked : {A : Type 0} (C : A → Type 0) (v : ℕ) {x y : A} → C x → C y → C (test v x y)

@@ -141,16 +141,20 @@ checkStmt R s = require (stmtOk (R .vars) (R .exprs) s (R .stmtAt s)) (BadStatem
 
 -- ---- the whole check
 
-unfoldable pub checkRecipe : List ℕ → Checked
-checkRecipe r =
+-- before the records: 16 (short), 17, 18, 19, 16 (length)
+unfoldable pub checkHeader : List ℕ → Checked
+checkHeader r =
     let R = recipeOf r in
     require (leb 16 (length r)) RecipeLength
     andThen require (markOk r) RecipeMark
     andThen require (eqb (half r 3) 1) RecipeVersion
     andThen require (zerosOk r and countsOk R) RecipeHeader
     andThen require (eqb (length r) (16 + 8 * R .exprs + 8 * R .stmts)) RecipeLength
-    andThen upTo (R .exprs) (checkExpr R)
-    andThen upTo (R .stmts) (checkStmt R)
+
+unfoldable pub checkRecipe : List ℕ → Checked
+checkRecipe r =
+    let R = recipeOf r in
+    checkHeader r andThen upTo (R .exprs) (checkExpr R) andThen upTo (R .stmts) (checkStmt R)
 
 -- ---- its ports against a policy of so many ports (26)
 

@@ -3,7 +3,7 @@ use mathlib.Core.Path.{sym, _∙_}
 use borrow.Author.Needs.{needs}
 use Rattle.rules.specs.Policy.{checkPolicy}
 use Rattle.rules.proofs.Checks.{passes, fails, next, stops}
-use Rattle.policy.proofs.Answers.{yes, no}
+use Rattle.rules.proofs.Tests.{denied, held}
 use Rattle.policy.proofs.Shape.{headed, filled}
 use Rattle.policy.proofs.check_policy.Statement.{statement}
 use Rattle.policy.proofs.check_policy.Tie as tie
@@ -13,10 +13,10 @@ header-ok-requires c κs = search needs
 
 returns : tie.Need-returns
 unfolding checkPolicy
-returns c = sym (stops _ (fails _ (no (c .before .header-ok .ensures) (c .if1 .taken))))
+returns c = sym (stops _ (fails _ (denied (c .before .header-ok .ensures) (c .if1 .taken))))
 
 check-entries-requires : tie.Need-check-entries-requires
-check-entries-requires c κs = headed _ (yes (c .before .header-ok .ensures) (c .if1 .left))
+check-entries-requires c κs = headed _ (held (c .before .header-ok .ensures) (c .if1 .left))
 
 enum-known-found : tie.Need-enum-known-found
 enum-known-found c = search needs
@@ -25,7 +25,7 @@ returns-2 : tie.Need-returns-2
 unfolding checkPolicy
 returns-2 c =
     let before = c .before .before .before .before in
-    let header = yes (before .before .header-ok .ensures) (before .if1 .left) in
+    let header = held (before .before .header-ok .ensures) (before .if1 .left) in
     let entries = sym (c .before .before .before .check-entries .ensures) ∙ c .before .found .given .1 in
     sym (next _ (passes _ header) ∙ stops _ entries)
 
@@ -35,24 +35,24 @@ enum-told c = search needs
 laws-ok-requires : tie.Need-laws-ok-requires
 laws-ok-requires c κs =
     let before = c .before .before .before in
-    let header = yes (before .before .header-ok .ensures) (before .if1 .left) in
+    let header = held (before .before .header-ok .ensures) (before .if1 .left) in
     filled _ (headed _ header) (sym (c .before .before .check-entries .ensures) ∙ c .enum-told .given .1)
 
 returns-3 : tie.Need-returns-3
 unfolding checkPolicy
 returns-3 c =
     let before = c .before .before .before .before .before in
-    let header = yes (before .before .header-ok .ensures) (before .if1 .left) in
+    let header = held (before .before .header-ok .ensures) (before .if1 .left) in
     let entries = sym (c .before .before .before .before .check-entries .ensures) ∙ c .before .before .enum-told .given .1 in
-    sym (next _ (passes _ header) ∙ next _ entries ∙ fails _ (no (c .before .laws-ok .ensures) (c .if2 .taken)))
+    sym (next _ (passes _ header) ∙ next _ entries ∙ fails _ (denied (c .before .laws-ok .ensures) (c .if2 .taken)))
 
 returns-4 : tie.Need-returns-4
 unfolding checkPolicy
 returns-4 c =
     let before = c .before .before .before .before .before in
-    let header = yes (before .before .header-ok .ensures) (before .if1 .left) in
+    let header = held (before .before .header-ok .ensures) (before .if1 .left) in
     let entries = sym (c .before .before .before .before .check-entries .ensures) ∙ c .before .before .enum-told .given .1 in
-    sym (next _ (passes _ header) ∙ next _ entries ∙ passes _ (yes (c .before .laws-ok .ensures) (c .if2 .left)))
+    sym (next _ (passes _ header) ∙ next _ entries ∙ passes _ (held (c .before .laws-ok .ensures) (c .if2 .left)))
 
 pub check-policy-spec : {M : Type 1} → statement M
 check-policy-spec =

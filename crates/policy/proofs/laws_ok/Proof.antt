@@ -6,7 +6,7 @@ use mathlib.Core.Bool.{true}
 use borrow.Author.Needs.{needs}
 use borrow.Author.Count.{below-none, below-more}
 use Rattle.rules.specs.Policy.{policyOf, lawAt}
-use Rattle.policy.proofs.Answers.{yes, no}
+use Rattle.rules.proofs.Tests.{denied, held}
 use Rattle.policy.proofs.Laws.{laws-hold, law-broken}
 use Rattle.policy.proofs.laws_ok.Statement.{statement}
 use Rattle.policy.proofs.laws_ok.Tie as tie
@@ -54,7 +54,7 @@ loop2-less c = search needs
 loop2-again : tie.Need-loop2-again Inv-loop2 μ-loop2 Inv-loop μ-loop Inv-laws μ-laws
 loop2-again c =
     let inv = c .before .before .before .loop2 .inv in
-    (search needs, inv .1, below-more _ _ (inv .2) (yes (c .before .law-at .ensures) (c .if1 .left)))
+    (search needs, inv .1, below-more _ _ (inv .2) (held (c .before .law-at .ensures) (c .if1 .left)))
 
 add-u : tie.Need-add-u Inv-loop2 μ-loop2 Inv-loop μ-loop Inv-laws μ-laws
 add-u c = search needs
@@ -85,7 +85,7 @@ returns c =
 
 returns-2 : tie.Need-returns-2 Inv-loop2 μ-loop2 Inv-loop μ-loop Inv-laws μ-laws
 returns-2 c =
-    sym (law-broken _ _ _ _ (omega arith) (omega arith) (omega arith) (no (c .before .law-at .ensures) (c .if1 .taken)))
+    sym (law-broken _ _ _ _ (omega arith) (omega arith) (omega arith) (denied (c .before .law-at .ensures) (c .if1 .taken)))
 
 pub laws-ok-spec : {M : Type 1} → statement M
 laws-ok-spec =

@@ -7,7 +7,8 @@ use Rattle.rules.specs.declared.Checked.the-variants.{Passed}
 use Rattle.rules.specs.Checks.{upTo}
 use Rattle.rules.specs.Recipe.{recipeOf, checkExpr}
 use Rattle.rules.proofs.Checks.{passes, fails, next, stops, both-pass, up-none, up-more, up-stops}
-use Rattle.recipe.proofs.Order.{denied, held, finished}
+use Rattle.rules.proofs.Tests.{denied, held}
+use Rattle.recipe.proofs.Order.{finished}
 use Rattle.recipe.proofs.Spreads.{reached}
 use Rattle.recipe.proofs.check_exprs.Statement.{statement}
 use Rattle.recipe.proofs.check_exprs.Tie as tie

@@ -1,7 +1,8 @@
 -- `recipe::check_header` meets its contract: the first test that fails decides. Assumes nothing.
 use native.Mathlib.Omega.{arith}
 use borrow.Author.Needs.{needs}
-use Rattle.recipe.proofs.Order.{denied, held, too-short, no-mark, no-version, no-zeros, no-counts, no-length, header}
+use Rattle.rules.proofs.Tests.{denied, held}
+use Rattle.recipe.proofs.Order.{too-short, no-mark, no-version, no-zeros, no-counts, no-length, header}
 use Rattle.recipe.proofs.check_header.Statement.{statement}
 use Rattle.recipe.proofs.check_header.Tie as tie
 

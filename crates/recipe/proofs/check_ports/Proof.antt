@@ -7,7 +7,8 @@ use Rattle.rules.specs.declared.Refusal.the-variants.{BadPort}
 use Rattle.rules.specs.Checks.{require, upTo}
 use Rattle.rules.specs.Recipe.{recipeOf, portOk, checkPorts}
 use Rattle.rules.proofs.Checks.{passes, fails, up-none, up-more, up-stops}
-use Rattle.recipe.proofs.Order.{denied, held, finished}
+use Rattle.rules.proofs.Tests.{denied, held}
+use Rattle.recipe.proofs.Order.{finished}
 use Rattle.recipe.proofs.check_ports.Statement.{statement}
 use Rattle.recipe.proofs.check_ports.Tie as tie
 

@@ -6,7 +6,8 @@ use Rattle.rules.specs.declared.Checked.the-variants.{Passed}
 use Rattle.rules.specs.Checks.{upTo}
 use Rattle.rules.specs.Recipe.{recipeOf, checkStmt}
 use Rattle.rules.proofs.Checks.{passes, fails, up-none, up-more, up-stops}
-use Rattle.recipe.proofs.Order.{denied, held, finished}
+use Rattle.rules.proofs.Tests.{denied, held}
+use Rattle.recipe.proofs.Order.{finished}
 use Rattle.recipe.proofs.check_stmts.Statement.{statement}
 use Rattle.recipe.proofs.check_stmts.Tie as tie
 
