@@ -122,16 +122,16 @@ numbered-header r =
     numbered-require _ _ tt (omega arith)
 
 -- the counts that the header's check bounds
-few-records : (r : List ℕ) → checkHeader r ≡ Passed → Counts (recipeOf r)
+header-few : (r : List ℕ) → checkHeader r ≡ Passed → Counts (recipeOf r)
 unfolding checkHeader
-few-records r h = counts (recipeOf r) (and-right _ _ (required _ _ (first _ _ (second _ _ (second _ _ (second _ _ h))))))
+header-few r h = counts (recipeOf r) (and-right _ _ (required _ _ (first _ _ (second _ _ (second _ _ (second _ _ h))))))
 
 numbered-recipe : (r : List ℕ) → Numbered (checkRecipe r)
 unfolding checkRecipe refusalPlace
 numbered-recipe r =
     let R = recipeOf r in
     numbered-then (numbered-header r) λ h.
-    let few = few-records r h in
+    let few = header-few r h in
     numbered-then
     (numbered-up (R .exprs) λ e l.
     let b : e < 65536 = omega (arith, few .few-exprs) in
