@@ -6,6 +6,7 @@ const struct named machines[] = {
 #ifndef NO_RUST
     { "rust", rust_judge },
 #endif
+    { "threaded", threaded_judge },
     { "literal", literal_judge },
 };
 const uint32_t machine_count = sizeof machines / sizeof machines[0];

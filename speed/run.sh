@@ -74,7 +74,7 @@ program() {
     name=$1
     shift
     objects=
-    for o in "$@" machines assemble plain literal; do objects="$objects $build/$o.o"; done
+    for o in "$@" machines assemble plain threaded literal; do objects="$objects $build/$o.o"; done
     # shellcheck disable=SC2086
     $cc $link -o "$build/$name" $objects "$library" $rust -lm -lpthread -ldl || fail "linking $name"
 }
@@ -86,14 +86,14 @@ if [ "$mode" = --sanitize ]; then
     link="-fsanitize=address,undefined -fno-sanitize-recover=undefined"
     build=$build/sanitized
     mkdir -p "$build"
-    for f in machines assemble plain literal fuzz; do object $f -O2 -g $link; done
+    for f in machines assemble plain threaded literal fuzz; do object $f -O2 -g $link; done
     program fuzz fuzz
     "$build/fuzz" "$@" || sum=1
     exit $sum
 fi
 
 # The machines as fast as the compiler makes them; nothing else is timed.
-for f in plain literal; do object $f -O3; done
+for f in plain threaded literal; do object $f -O3; done
 for f in machines assemble recipes examples bench fuzz stack; do object $f -O2; done
 program bench bench recipes examples
 program fuzz fuzz
@@ -114,7 +114,7 @@ callgrind() {
     fi
     names="plain vraduceni"
     [ -z "$rust" ] || names="$names rust"
-    names="$names literal"
+    names="$names threaded literal"
     echo
     echo "Instructions a step, whole calls (callgrind)"
     echo

@@ -1,164 +1,184 @@
-// Evaluation of an expression: its value with its tag, or the fault that ends the run.
+// Evaluation over the decoded tables t and the places u: an expression's value with its tag, or the fault that ends the run, as
+// one word, so that it stays in a register.
 ghost use mathlib.Core.Path.{_≡_};
-ghost use mathlib.Core.Bool.{true};
-ghost use Prim.Native.Nat.{_+_, _<_};
-ghost use Rattle.rules.specs.Bytes.{byte};
-ghost use Rattle.rules.specs.Operators.{unary, binary, divides};
-ghost use Rattle.rules.specs.Policy.{policyOf};
+ghost use mathlib.Core.List.{List};
+ghost use Prim.Native.Nat.{ℕ, _+_, _-_, _*_, _/_, _%_, _<_, _≤_};
+ghost use lib.ListN.{getD};
 ghost use Rattle.rules.specs.Recipe.{recipeOf};
-ghost use Rattle.rules.specs.Memory.{placeAt, placesOf, count};
-ghost use Rattle.rules.specs.Steps.{unaryOf, binaryOf};
-ghost use Rattle.rules.specs.Accepted.{Accepted, LawfulPolicy};
-ghost use Rattle.eval.specs.Values.{valueIn, cellIn, Tagged};
-use rules::BinaryOp;
-use rules::Expr;
-use rules::Place;
+ghost use Rattle.layout.specs.Tables.{joinIn};
+ghost use Rattle.layout.specs.Places.{placeIn, Ready, ExprGiven, valueIn};
+ghost use Rattle.layout.specs.Answers.{answerOf, stopFrom};
+ghost use Rattle.eval.specs.Packed.{tagIn, Joined, unaryIn, binaryIn, cellIn, CellAsked};
 use rules::Stop;
-use rules::UnaryOp;
 use rules::Valued;
 
-// ---- places
+const FAULT: u64 = 9223372036854775808;
 
-// Place i of an accepted memory.
-pub fn place(r: &[u8], p: &[u8], m: &[u8], i: usize) -> Place
-    requires { ⌜ Accepted (now r) (now p) (now m) × (i < count (recipeOf (now r))) ⌝ }
-    ensures { λ q. ⌜ (q ≡ placeAt (placesOf (recipeOf (now (r .entry))) (now (m .entry))) i) × (q .tag < byte (now (p .entry)) 6) ⌝ }
+// ---- answers
+
+pub fn word_of(x: u64) -> u32
+    ensures { λ w. ⌜ w ≡ x % 4294967296 ⌝ }
 {
-    memory::place_at(m, i)
+    (x % 4294967296) as u32
+}
+
+pub fn tag_of(x: u64) -> u8
+    requires { ⌜ x / 4294967296 < 256 ⌝ }
+    ensures { λ g. ⌜ g ≡ x / 4294967296 ⌝ }
+{
+    (x / 4294967296) as u8
+}
+
+// No fault has number 0 or 1: they count as the first.
+pub fn stop_of(x: u64) -> Stop
+    requires { ⌜ 9223372036854775808 ≤ x ⌝ }
+    ensures { λ h. ⌜ h ≡ stopFrom (x - 9223372036854775808) ⌝ }
+{
+    match x - FAULT {
+        0 | 1 | 2 => Stop::AssignTag,
+        3 => Stop::StoreTag,
+        4 => Stop::EmitTag,
+        5 => Stop::Index,
+        6 => Stop::Divisor,
+        7 => Stop::Room,
+        _ => Stop::Frames,
+    }
+}
+
+fn answer(w: u32, g: u8) -> u64
+    ensures { λ x. ⌜ x ≡ w + 4294967296 * g ⌝ }
+{
+    (w as u64) + 4294967296 * (g as u64)
+}
+
+// ---- tags and places
+
+pub fn join(t: &[u16; 8466], a: u8, b: u8) -> u8
+    requires { ⌜ (a < 16) × (b < 16) × (joinIn (now t) a b < 256) ⌝ }
+    ensures { λ g. ⌜ g ≡ joinIn (now (t .entry)) a b ⌝ }
+{
+    t[8192 + 16 * (a as usize) + (b as usize)] as u8
+}
+
+pub fn tag_at(u: &[u32; 4224], i: usize) -> u8
+    requires { ⌜ (i < 2112) × (getD (now u) (2112 + i) 0 < 256) ⌝ }
+    ensures { λ g. ⌜ g ≡ getD (now (u .entry)) (2112 + i) 0 ⌝ }
+{
+    u[2112 + i] as u8
+}
+
+fn place(u: &[u32; 4224], i: usize) -> u64
+    requires { ⌜ (i < 2112) × (getD (now u) (2112 + i) 0 < 256) ⌝ }
+    ensures { λ x. ⌜ x ≡ answerOf (Valued.Value (placeIn (now (u .entry)) i)) ⌝ }
+{
+    answer(u[i], tag_at(u, i))
 }
 
 // ---- operators
 
-fn unary_word(op: UnaryOp, x: u32) -> u32
-    ensures { λ r. ⌜ r ≡ unary op x ⌝ }
+// A word with the tag of x.
+fn one(w: u32, x: u64) -> u64
+    requires { ⌜ tagIn x < 256 ⌝ }
+    ensures { λ z. ⌜ z ≡ w + 4294967296 * tagIn x ⌝ }
 {
-    match op {
-        UnaryOp::Negate => words::neg(x),
-        UnaryOp::Not => words::not(x),
-        UnaryOp::Absolute => words::abs(x),
+    answer(w, tag_of(x))
+}
+
+// A word with the tags of x and y joined.
+fn both(t: &[u16; 8466], w: u32, x: u64, y: u64) -> u64
+    requires { ⌜ Joined (now t) (tagIn x) (tagIn y) ⌝ }
+    ensures { λ z. ⌜ z ≡ w + 4294967296 * joinIn (now (t .entry)) (tagIn x) (tagIn y) ⌝ }
+{
+    answer(w, join(t, tag_of(x), tag_of(y)))
+}
+
+fn cell(t: &[u16; 8466], u: &[u32; 4224], x: u64) -> u64
+    requires { ⌜ CellAsked (now t) (now u) x ⌝ }
+    ensures { λ z. ⌜ z ≡ cellIn (now (t .entry)) (now (u .entry)) x ⌝ }
+{
+    if (t[8465] as u32) <= word_of(x) {
+        return FAULT + 5;
+    }
+    let i = (t[8464] as usize) + (word_of(x) as usize);
+    answer(u[i], join(t, tag_at(u, i), tag_of(x)))
+}
+
+fn unary(k: u16, x: u64) -> u64
+    requires { ⌜ (2 ≤ k) × (k < 5) × (tagIn x < 256) ⌝ }
+    ensures { λ z. ⌜ z ≡ unaryIn k x ⌝ }
+{
+    match k {
+        2 => one(words::neg(word_of(x)), x),
+        3 => one(words::not(word_of(x)), x),
+        _ => one(words::abs(word_of(x)), x),
     }
 }
 
-fn can_divide(op: BinaryOp, y: u32) -> bool
-    ensures { λ r. ⌜ r ≡ divides op y ⌝ }
+fn binary(t: &[u16; 8466], k: u16, x: u64, y: u64) -> u64
+    requires { ⌜ (5 ≤ k) × (k < 14) × Joined (now t) (tagIn x) (tagIn y) ⌝ }
+    ensures { λ z. ⌜ z ≡ binaryIn (now (t .entry)) k x y ⌝ }
 {
-    match op {
-        BinaryOp::Div => y != 0,
-        BinaryOp::Rem => y != 0,
-        BinaryOp::Add => true,
-        BinaryOp::Sub => true,
-        BinaryOp::Mul => true,
-        BinaryOp::Less => true,
-        BinaryOp::LessEq => true,
-        BinaryOp::Equal => true,
-        BinaryOp::NotEqual => true,
-    }
-}
-
-fn binary_word(op: BinaryOp, x: u32, y: u32) -> u32
-    requires { ⌜ divides op y ≡ true ⌝ }
-    ensures { λ r. ⌜ r ≡ binary op x y ⌝ }
-{
-    match op {
-        BinaryOp::Add => words::add(x, y),
-        BinaryOp::Sub => words::sub(x, y),
-        BinaryOp::Mul => words::mul(x, y),
-        BinaryOp::Div => words::div(x, y),
-        BinaryOp::Rem => words::rem(x, y),
-        BinaryOp::Less => words::is_less(x, y),
-        BinaryOp::LessEq => words::is_less_equal(x, y),
-        BinaryOp::Equal => words::is_equal(x, y),
-        BinaryOp::NotEqual => words::is_not_equal(x, y),
-    }
-}
-
-// ---- expressions by what their operands give
-
-fn unary_of(op: UnaryOp, o: Valued) -> Valued
-    ensures { λ v. ⌜ v ≡ unaryOf op o ⌝ }
-{
-    match o {
-        Valued::Value(q) => {
-            let w = unary_word(op, q.value);
-            Valued::Value(Place {
-                value: w,
-                tag: q.tag,
-            })
+    let a = word_of(x);
+    let b = word_of(y);
+    match k {
+        5 => both(t, words::add(a, b), x, y),
+        6 => both(t, words::sub(a, b), x, y),
+        7 => both(t, words::mul(a, b), x, y),
+        8 => {
+            if b == 0 {
+                return FAULT + 6;
+            }
+            both(t, words::div(a, b), x, y)
         }
-        Valued::Fault(h) => Valued::Fault(h),
-    }
-}
-
-// Both operands are there.
-fn both(p: &[u8], op: BinaryOp, x: Place, y: Place) -> Valued
-    requires { ⌜ LawfulPolicy (now p) × (x .tag < byte (now p) 6) × (y .tag < byte (now p) 6) ⌝ }
-    ensures { λ v. ⌜ v ≡ binaryOf (policyOf (now (p .entry))) op (Valued.Value x) (Valued.Value y) ⌝ }
-{
-    if can_divide(op, y.value) {
-        let t = policy::join(p, x.tag, y.tag);
-        let w = binary_word(op, x.value, y.value);
-        return Valued::Value(Place { value: w, tag: t });
-    }
-    Valued::Fault(Stop::Divisor)
-}
-
-fn binary_of(p: &[u8], op: BinaryOp, left: Valued, right: Valued) -> Valued
-    requires { ⌜ LawfulPolicy (now p) × Tagged (byte (now p) 6) left × Tagged (byte (now p) 6) right ⌝ }
-    ensures { λ v. ⌜ v ≡ binaryOf (policyOf (now (p .entry))) op left right ⌝ }
-{
-    match left {
-        Valued::Value(x) => match right {
-            Valued::Value(y) => both(p, op, x, y),
-            Valued::Fault(h) => Valued::Fault(h),
-        },
-        Valued::Fault(h) => Valued::Fault(h),
-    }
-}
-
-// The index is there.
-fn cell_at(r: &[u8], p: &[u8], m: &[u8], i: Place) -> Valued
-    requires { ⌜ Accepted (now r) (now p) (now m) × (i .tag < byte (now p) 6) ⌝ }
-    ensures { λ v. ⌜ v ≡ cellIn (now (r .entry)) (now (p .entry)) (now (m .entry)) (Valued.Value i) ⌝ }
-{
-    let x = i.value as usize;
-    if tables::half_at(r, 12) <= x {
-        return Valued::Fault(Stop::Index);
-    }
-    let q = place(r, p, m, tables::half_at(r, 10) + x);
-    let t = policy::join(p, q.tag, i.tag);
-    Valued::Value(Place {
-        value: q.value,
-        tag: t,
-    })
-}
-
-fn cell_of(r: &[u8], p: &[u8], m: &[u8], index: Valued) -> Valued
-    requires { ⌜ Accepted (now r) (now p) (now m) × Tagged (byte (now p) 6) index ⌝ }
-    ensures { λ v. ⌜ v ≡ cellIn (now (r .entry)) (now (p .entry)) (now (m .entry)) index ⌝ }
-{
-    match index {
-        Valued::Value(i) => cell_at(r, p, m, i),
-        Valued::Fault(h) => Valued::Fault(h),
+        9 => {
+            if b == 0 {
+                return FAULT + 6;
+            }
+            both(t, words::rem(a, b), x, y)
+        }
+        10 => both(t, words::is_less(a, b), x, y),
+        11 => both(t, words::is_less_equal(a, b), x, y),
+        12 => both(t, words::is_equal(a, b), x, y),
+        _ => both(t, words::is_not_equal(a, b), x, y),
     }
 }
 
 // ---- expressions by their numbers
 
-// Operands have lower numbers than their user, so the expression's own number falls.
-pub fn value(r: &[u8], p: &[u8], m: &[u8], e: usize) -> Valued
-    requires { ⌜ Accepted (now r) (now p) (now m) × (e < recipeOf (now r) .exprs) ⌝ }
-    ensures { λ v. ⌜ v ≡ valueIn (now (r .entry)) (now (p .entry)) (now (m .entry)) e ⌝ }
+// A leaf is read where it stands: only compound operands cost a call.
+fn operand(t: &[u16; 8466], u: &[u32; 4224], e: usize) -> u64
+    requires { ⌜ ExprGiven (now t) (now u) e ⌝ }
+    ensures { λ x. ⌜ ((r p : List ℕ) → Ready r p (now (t .entry)) (now (u .entry)) → e < recipeOf r .exprs → x ≡ answerOf (valueIn r p (now (u .entry)) e)) ⌝ }
 {
-    let x = tables::expr_at(r, e);
-    match x {
-        Expr::Constant(w) => Valued::Value(Place { value: w, tag: 0 }),
-        Expr::Variable(i) => Valued::Value(place(r, p, m, i)),
-        Expr::Cell(a) => cell_of(r, p, m, value(r, p, m, a)),
-        Expr::Unary(op, a) => unary_of(op, value(r, p, m, a)),
-        Expr::Binary(op, a, b) => {
-            let left = value(r, p, m, a);
-            binary_of(p, op, left, value(r, p, m, b))
-        }
-        Expr::BadExpr => Valued::Value(Place { value: 0, tag: 0 }),
+    if t[4 * e] == 0 {
+        return place(u, t[4 * e + 1] as usize);
     }
+    value(t, u, e)
+}
+
+// Operands have lower numbers than their user, so the expression's own number falls.
+pub fn value(t: &[u16; 8466], u: &[u32; 4224], e: usize) -> u64
+    requires { ⌜ ExprGiven (now t) (now u) e ⌝ }
+    ensures { λ x. ⌜ ((r p : List ℕ) → Ready r p (now (t .entry)) (now (u .entry)) → e < recipeOf r .exprs → x ≡ answerOf (valueIn r p (now (u .entry)) e)) ⌝ }
+{
+    let k = t[4 * e];
+    let a = t[4 * e + 1] as usize;
+    if k == 0 {
+        return place(u, a);
+    }
+    let x = operand(t, u, a);
+    if FAULT <= x {
+        return x;
+    }
+    if k == 1 {
+        return cell(t, u, x);
+    }
+    if k < 5 {
+        return unary(k, x);
+    }
+    let y = operand(t, u, t[4 * e + 2] as usize);
+    if FAULT <= y {
+        return y;
+    }
+    binary(t, k, x, y)
 }

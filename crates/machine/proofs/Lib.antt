@@ -1,4 +1,5 @@
 pub mod Frames
 pub mod Turns
+pub mod Loaded
 pub mod InOrder
 pub mod Determined

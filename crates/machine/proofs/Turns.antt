@@ -23,22 +23,21 @@ use Rattle.rules.specs.declared.End.the-variants.{Done, Budget, Stopped}
 use Rattle.rules.specs.Bytes.{Bytes, byte}
 use Rattle.rules.specs.Policy.{Policy, policyOf}
 use Rattle.rules.specs.Recipe.{Recipe, recipeOf}
-use Rattle.rules.specs.Memory.{Memory, valueOf, placesOf, placeBytes, count, Record}
+use Rattle.rules.specs.Memory.{Memory, valueOf, tagOf, placeBytes, count, Record}
 use Rattle.rules.specs.Steps.{State, state, Turn, Goes, Halts, Finished, repeats, loopIn, check, performs, takes, step}
 use Rattle.rules.specs.Run.{Result, ends, follow, run, start}
-use Rattle.rules.specs.Judged.{outcomeOf, writtenBack, ran}
-use Rattle.rules.specs.Accepted.{WellTagged, Accepted}
-use Rattle.rules.proofs.Bytes.{sound, length-places, places-ok}
+use Rattle.rules.specs.Judged.{outcomeOf, writtenBack}
 use Rattle.rules.proofs.Standing.{Sound, PlaceOk, PlacesOk, FrameOk, StandingIn, ActOk, pushes, writes, keeps-step, act-ok, standing-start}
 use Rattle.rules.proofs.Reached.{standing-after}
-use Rattle.memory.specs.Layout.{placed, recorded, Holds}
-use Rattle.memory.proofs.Places.{written, length-placed, places-bytes, bytes-write}
+use Rattle.memory.specs.Layout.{recorded, Holds}
 use Rattle.memory.proofs.Records.{none-held, length-held, more-held}
+use Rattle.layout.specs.Places.{heldIn, Ready}
+use Rattle.layout.proofs.Places.{held-length, held-write, sound-ready, places-ready, ready-write}
 use Rattle.steps.specs.Asks.{beginIn, againIn}
 use Rattle.machine.specs.declared.Taken.{Taken}
 use Rattle.machine.specs.declared.Taken.the-variants.{Keeps, Drops, Ends}
-use Rattle.machine.specs.Frames.{frameOf, framesOf, waitingOf}
-use Rattle.machine.specs.Turns.{loopTaken, takeIn, FrameFits, LeftAs}
+use Rattle.machine.specs.Frames.{frameOf, framesOf, waitingOf, FrameSmall}
+use Rattle.machine.specs.Turns.{loopTaken, takeIn, FrameFits, LeftAs, RunAs}
 use Rattle.machine.proofs.Frames.{pushed, popped, frames-length, waits-next, waits-at}
 
 -- ---- a run by its first step
@@ -95,54 +94,46 @@ run-spent P R room k x halts = refl
 
 -- ---- a frame by what taking it asks
 
-module _ (r p m : List ℕ) (room tag : ℕ) (l : List Frame) (q : List Record) where
+module _ (r p u : List ℕ) (room tag : ℕ) (l : List Frame) (q : List Record) where
   abbrev leads : Frame → Taken → Turn
-  leads f (Keeps a u) = Goes (state u (Begin a) (f ∷ l) (placesOf (recipeOf r) m) q)
-  leads f (Drops a u) = Goes (state u (waitingOf a) l (placesOf (recipeOf r) m) q)
+  leads f (Keeps a v) = Goes (state v (Begin a) (f ∷ l) (heldIn (recipeOf r) u) q)
+  leads f (Drops a v) = Goes (state v (waitingOf a) l (heldIn (recipeOf r) u) q)
   leads f (Ends h s) = Halts h s
 
-  by-again : (s u : ℕ) (z : Again) → takes (recipeOf r) room s tag l (placesOf (recipeOf r) m) q u z ≡ leads (Loop s u) (loopTaken s u z)
+  by-again : (s g : ℕ) (z : Again) → takes (recipeOf r) room s tag l (heldIn (recipeOf r) u) q g z ≡ leads (Loop s g) (loopTaken s g z)
   unfolding waitingOf
-  by-again s u (Repeats a v) = refl
-  by-again s u Leaves = refl
-  by-again s u (Fails h) = refl
+  by-again s g (Repeats a v) = refl
+  by-again s g Leaves = refl
+  by-again s g (Fails h) = refl
 
-  by-frame : (f : Frame) → step (policyOf p) (recipeOf r) room (state tag Nothing (f ∷ l) (placesOf (recipeOf r) m) q) ≡ leads f (takeIn r p m tag f)
+  by-frame : (f : Frame) → step (policyOf p) (recipeOf r) room (state tag Nothing (f ∷ l) (heldIn (recipeOf r) u) q) ≡ leads f (takeIn r p u tag f)
   unfolding waitingOf
   by-frame (Next a) = rw (waits-next a)
-  by-frame (Join u) = refl
-  by-frame (Loop s u) = by-again s u (againIn r p m tag s)
+  by-frame (Join g) = refl
+  by-frame (Loop s g) = by-again s g (againIn r p u tag s)
 
 -- ---- what the loop holds
 
--- the state in the loop's stack, depth, next statement and branch tag
-abbrev pub stateOf : (r m st : List ℕ) (d at tag : ℕ) → List Record → State
-stateOf r m st d at tag s = state tag (waitingOf at) (framesOf st d) (placesOf (recipeOf r) m) s
+-- the state in the loop's places, stack, depth, next statement and branch tag
+abbrev pub stateOf : (r u st : List ℕ) (d at tag : ℕ) → List Record → State
+stateOf r u st d at tag s = state tag (waitingOf at) (framesOf st d) (heldIn (recipeOf r) u) s
+
+-- the whole run, from the places in u₀
+abbrev whole : (r p u₀ q₀ : List ℕ) (B : ℕ) → Result
+whole r p u₀ q₀ B = run (policyOf p) (recipeOf r) (length q₀) B 0 (start (recipeOf r) (heldIn (recipeOf r) u₀))
 
 -- what is left to run from the state that the loop holds is the whole run
-pub record Stands (r p m₀ q₀ m q st : List ℕ) (B n k d at tag : ℕ) : Type 0 where
-  pub ok : Sound (policyOf p) (recipeOf r)
-  pub accepted : Accepted r p m
+pub record Stands (r p t u₀ q₀ u q st : List ℕ) (B n k d at tag : ℕ) : Type 0 where
+  pub ready : Ready r p t u
   pub records : List Record
   pub held : Holds q₀ q records k
   pub few : k ≤ n
   pub within : n ≤ B
   pub size : length st ≡ 512
-  pub same-memory : length m ≡ length m₀
+  pub all-places : length u ≡ 4224
   pub same-room : length q ≡ length q₀
-  pub bytes : m ≡ placeBytes (placesOf (recipeOf r) m)
-  pub standing : StandingIn (policyOf p) (recipeOf r) (length q₀) (stateOf r m st d at tag records)
-  pub rest : ran r p m₀ (length q₀) B ≡ run (policyOf p) (recipeOf r) (length q₀) (B - n) n (stateOf r m st d at tag records)
-
--- a memory of the same length, whose places are the policy's, is accepted too
-accepted-as : {r p m m′ : List ℕ} → Accepted r p m → length m′ ≡ length m → PlacesOk (policyOf p) (placesOf (recipeOf r) m′) → Accepted r p m′
-accepted-as a e fine =
-    record {
-      recipe = a .recipe;
-      policy = a .policy;
-      ports = a .ports;
-      memory = record { long = e ∙ a .memory .long; tags-below = λ i l. fine .ok i .good };
-    }
+  pub standing : StandingIn (policyOf p) (recipeOf r) (length q₀) (stateOf r u st d at tag records)
+  pub rest : whole r p u₀ q₀ B ≡ run (policyOf p) (recipeOf r) (length q₀) (B - n) n (stateOf r u st d at tag records)
 
 fits : (r p : List ℕ) (f : Frame) → FrameOk (policyOf p) (recipeOf r) f → FrameFits r p f
 fits r p (Next a) h = h
@@ -150,33 +141,29 @@ fits r p (Join t) h = h
 fits r p (Loop s t) h = (h .0, h .1)
 
 -- the loop's state as it is first
-pub starts : {r p m q st : List ℕ} {B at : ℕ} → Bytes r → Bytes m → length st ≡ 512 → at ≡ recipeOf r .stmts → Accepted r p m
-    → Stands r p m q m q st B 0 0 0 at 0
+pub starts : {r p t u q st : List ℕ} {B at : ℕ} → Ready r p t u → length u ≡ 4224 → length st ≡ 512 → at ≡ recipeOf r .stmts
+    → Stands r p t u q u q st B 0 0 0 at 0
 unfolding framesOf
-starts {r} {p} {m} {q} {st} {B} {at} br bm size e a =
+starts {r} {p} {t} {u} {q} {st} {B} {at} a all size e =
     let R = recipeOf r in
-    let good = sound r p m br a in
     let z : B - 0 ≡ B = omega arith in
-    let fine = places-ok R (policyOf p) m bm (good .lawful .some-tag) (a .memory) in
     let w = waits-at (R .stmts) (a .recipe .counts .some-stmt) in
     record {
-      ok = good;
-      accepted = a;
+      ready = a;
       records = [];
       held = none-held q;
       few = omega arith;
       within = omega arith;
       size = size;
-      same-memory = refl;
+      all-places = all;
       same-room = refl;
-      bytes = sym (places-bytes (count R) m (sym (a .memory .long)) bm);
-      standing = rw (e, w) (standing-start good (length q) (placesOf R m) (length-places _ m) fine);
+      standing = rw (e, w) (standing-start (sound-ready a) (length q) (heldIn R u) (held-length u 0 (count R)) (places-ready a));
       rest = rw (z, e, w);
     }
 
-module _ {r p m₀ q₀ m q st : List ℕ} {B n k d at tag : ℕ} (g : Stands r p m₀ q₀ m q st B n k d at tag) where
+module _ {r p t u₀ q₀ u q st : List ℕ} {B n k d at tag : ℕ} (g : Stands r p t u₀ q₀ u q st B n k d at tag) where
   abbrev now : State
-  now = stateOf r m st d at tag (g .records)
+  now = stateOf r u st d at tag (g .records)
 
   abbrev stepped : Turn
   stepped = step (policyOf p) (recipeOf r) (length q₀) now
@@ -198,96 +185,100 @@ module _ {r p m₀ q₀ m q st : List ℕ} {B n k d at tag : ℕ} (g : Stands r 
   -- ---- ends
 
   ended : {e : End} {n′ : ℕ} → run (policyOf p) (recipeOf r) (length q₀) (B - n) n now ≡ ends e n′ now
-      → LeftAs (outcomeOf e n′ k) m q (writtenBack q₀ (ran r p m₀ (length q₀) B))
+      → RunAs r p t u₀ q₀ B (outcomeOf e n′ k) u q
   unfolding writtenBack
   ended e =
-      rw (g .rest ∙ e)
-      (record {
-        outcome-is = rw (g .held .counted);
-        memory-is = g .bytes;
-        room-is = rw (g .held .counted) (g .held .bytes);
-      })
+      record {
+        left = rw (g .rest ∙ e) (record { outcome-is = rw (g .held .counted); memory-is = refl; room-is = rw (g .held .counted) (g .held .bytes) });
+        ready = g .ready;
+      }
 
-  pub done : at ≡ 0 → d ≡ 0 → LeftAs (outcomeOf Done n k) m q (writtenBack q₀ (ran r p m₀ (length q₀) B))
+  pub done : at ≡ 0 → d ≡ 0 → RunAs r p t u₀ q₀ B (outcomeOf Done n k) u q
   unfolding waitingOf framesOf
   done x y = ended (run-done (policyOf p) (recipeOf r) (length q₀) (B - n) n now (rw (x, y)))
 
-  spent : B ≤ n → Moves stepped → LeftAs (outcomeOf Budget n k) m q (writtenBack q₀ (ran r p m₀ (length q₀) B))
+  spent : B ≤ n → Moves stepped → RunAs r p t u₀ q₀ B (outcomeOf Budget n k) u q
   spent h w =
       let z : B - n ≡ 0 = omega arith in
       ended (rw z (run-spent (policyOf p) (recipeOf r) (length q₀) n now w))
 
-  pub spent-next : 0 < at → B ≤ n → LeftAs (outcomeOf Budget n k) m q (writtenBack q₀ (ran r p m₀ (length q₀) B))
-  spent-next x h = spent h (rw (waits-at at x) (moves-performs (recipeOf r) (length q₀) (at - 1) tag (framesOf st d) (placesOf (recipeOf r) m) (g .records) (beginIn r p m tag (at - 1))))
+  pub spent-next : 0 < at → B ≤ n → RunAs r p t u₀ q₀ B (outcomeOf Budget n k) u q
+  spent-next x h = spent h (rw (waits-at at x) (moves-performs (recipeOf r) (length q₀) (at - 1) tag (framesOf st d) (heldIn (recipeOf r) u) (g .records) (beginIn r p u tag (at - 1))))
 
-  pub spent-frame : at ≡ 0 → 0 < d → B ≤ n → LeftAs (outcomeOf Budget n k) m q (writtenBack q₀ (ran r p m₀ (length q₀) B))
+  pub spent-frame : at ≡ 0 → 0 < d → B ≤ n → RunAs r p t u₀ q₀ B (outcomeOf Budget n k) u q
   unfolding waitingOf
-  spent-frame x y h = spent h (rw (x, popped st d y) (moves-frame (policyOf p) (recipeOf r) (length q₀) tag (frameOf (getD st (d - 1) 0)) (framesOf st (d - 1)) (placesOf (recipeOf r) m) (g .records)))
+  spent-frame x y h = spent h (rw (x, popped st d y) (moves-frame (policyOf p) (recipeOf r) (length q₀) tag (frameOf (getD st (d - 1) 0)) (framesOf st (d - 1)) (heldIn (recipeOf r) u) (g .records)))
 
   module _ (less : n < B) where
-    stopped : {h : Stop} {s : ℕ} → stepped ≡ Halts h s → LeftAs (outcomeOf (Stopped h s) (n + 1) k) m q (writtenBack q₀ (ran r p m₀ (length q₀) B))
+    stopped : {h : Stop} {s : ℕ} → stepped ≡ Halts h s → RunAs r p t u₀ q₀ B (outcomeOf (Stopped h s) (n + 1) k) u q
     stopped e = ended (run-stop (policyOf p) (recipeOf r) (length q₀) (B - n) n now (omega arith) e)
 
     -- ---- the next turn
 
-    moved : {m′ q′ st′ : List ℕ} {k′ d′ at′ tag′ : ℕ} {s : List Record}
-        → stepped ≡ Goes (stateOf r m′ st′ d′ at′ tag′ s)
-        → Holds q₀ q′ s k′ → k′ ≤ n + 1 → length st′ ≡ 512 → length m′ ≡ length m → m′ ≡ placeBytes (placesOf (recipeOf r) m′)
-        → Stands r p m₀ q₀ m′ q′ st′ B (n + 1) k′ d′ at′ tag′
-    moved {s = s} e h few size same bytes =
+    moved : {u′ q′ st′ : List ℕ} {k′ d′ at′ tag′ : ℕ} {s : List Record}
+        → stepped ≡ Goes (stateOf r u′ st′ d′ at′ tag′ s)
+        → Holds q₀ q′ s k′ → k′ ≤ n + 1 → length st′ ≡ 512 → length u′ ≡ 4224 → Ready r p t u′
+        → Stands r p t u₀ q₀ u′ q′ st′ B (n + 1) k′ d′ at′ tag′
+    moved {s = s} e h few size all ready =
         let z : B - n - 1 ≡ B - (n + 1) = omega arith in
-        let after = standing-after (keeps-step (g .ok) (length q₀) now (g .standing)) e in
+        let after = standing-after (keeps-step (sound-ready (g .ready)) (length q₀) now (g .standing)) e in
         record {
-          ok = g .ok;
-          accepted = accepted-as (g .accepted) same (after .places);
+          ready = ready;
           records = s;
           held = h;
           few = few;
           within = omega arith;
           size = size;
-          same-memory = same ∙ g .same-memory;
+          all-places = all;
           same-room = length-held h (rw (h .counted) at (after .fits));
-          bytes = bytes;
           standing = after;
           rest = g .rest ∙ run-go (policyOf p) (recipeOf r) (length q₀) (B - n) n now (omega arith) e ∙ rw z;
         }
 
     -- ---- a statement is begun
 
-    module _ (x : 0 < at) {a : Act} (asked : a ≡ beginIn r p m tag (at - 1)) where
-      begun : stepped ≡ performs (recipeOf r) (length q₀) (at - 1) tag (framesOf st d) (placesOf (recipeOf r) m) (g .records) a
+    module _ (x : 0 < at) {a : Act} (asked : a ≡ beginIn r p u tag (at - 1)) where
+      begun : stepped ≡ performs (recipeOf r) (length q₀) (at - 1) tag (framesOf st d) (heldIn (recipeOf r) u) (g .records) a
       begun = rw (waits-at at x, asked)
 
       act-fits : ActOk (policyOf p) (recipeOf r) a
-      act-fits = rw asked (act-ok (g .ok) (next-below x) (g .standing .branch) (g .standing .places))
+      act-fits = rw asked (act-ok (sound-ready (g .ready)) (next-below x) (g .standing .branch) (g .standing .places))
 
-      pub passes-on : a ≡ Passes → Stands r p m₀ q₀ m q st B (n + 1) k d 0 tag
+      pub passes-on : a ≡ Passes → Stands r p t u₀ q₀ u q st B (n + 1) k d 0 tag
       unfolding waitingOf
-      passes-on e = moved (rw e at begun) (g .held) (omega (arith, g .few)) (g .size) refl (g .bytes)
+      passes-on e = moved (rw e at begun) (g .held) (omega (arith, g .few)) (g .size) (g .all-places) (g .ready)
 
-      pub stops-begun : {h : Stop} → a ≡ Stops h → LeftAs (outcomeOf (Stopped h (at - 1)) (n + 1) k) m q (writtenBack q₀ (ran r p m₀ (length q₀) B))
+      pub stops-begun : {h : Stop} → a ≡ Stops h → RunAs r p t u₀ q₀ B (outcomeOf (Stopped h (at - 1)) (n + 1) k) u q
       stops-begun e = stopped (rw e at begun)
 
-      module _ {f : Frame} {a′ t : ℕ} (e : a ≡ Pushes f a′ t) where
+      module _ {f : Frame} {a′ b′ : ℕ} (e : a ≡ Pushes f a′ b′) where
         pub push-fits : FrameFits r p f
         push-fits = of-act (subst (ActOk (policyOf p) (recipeOf r)) e act-fits)
           where
-            of-act : ActOk (policyOf p) (recipeOf r) (Pushes f a′ t) → FrameFits r p f
+            of-act : ActOk (policyOf p) (recipeOf r) (Pushes f a′ b′) → FrameFits r p f
             of-act (pushes f h l u) = fits r p f h
+
+        pub push-small : FrameSmall f
+        push-small = small f push-fits
+          where
+            small : (f : Frame) → FrameFits r p f → FrameSmall f
+            small (Next s) h = omega (arith, h, g .ready .recipe .counts .few-stmts)
+            small (Join v) h = omega (arith, h, g .ready .policy .few-tags)
+            small (Loop s v) h = (omega (arith, h .0, g .ready .recipe .counts .few-stmts), omega (arith, h .1, g .ready .policy .few-tags))
 
         pub push-below : a′ < recipeOf r .stmts
         push-below = of-act (subst (ActOk (policyOf p) (recipeOf r)) e act-fits)
           where
-            of-act : ActOk (policyOf p) (recipeOf r) (Pushes f a′ t) → a′ < recipeOf r .stmts
+            of-act : ActOk (policyOf p) (recipeOf r) (Pushes f a′ b′) → a′ < recipeOf r .stmts
             of-act (pushes f h l u) = l
 
-        pub pushes-on : (w : ℕ) → d < recipeOf r .stmts → frameOf w ≡ f → Stands r p m₀ q₀ m q (set st d w) B (n + 1) k (d + 1) (a′ + 1) t
+        pub pushes-on : (w : ℕ) → d < recipeOf r .stmts → frameOf w ≡ f → Stands r p t u₀ q₀ u q (set st d w) B (n + 1) k (d + 1) (a′ + 1) b′
         unfolding check
         pushes-on w l j =
-            moved ((rw (e, frames-length st d, lt-ltb d (recipeOf r .stmts) l) at begun) ∙ rw (waits-next a′, pushed st d w (omega (arith, g .size, g .accepted .recipe .counts .few-stmts)), j))
-            (g .held) (omega (arith, g .few)) (length-set st d w ∙ g .size) refl (g .bytes)
+            moved ((rw (e, frames-length st d, lt-ltb d (recipeOf r .stmts) l) at begun) ∙ rw (waits-next a′, pushed st d w (omega (arith, g .size, g .ready .recipe .counts .few-stmts)), j))
+            (g .held) (omega (arith, g .few)) (length-set st d w ∙ g .size) (g .all-places) (g .ready)
 
-        pub full : recipeOf r .stmts ≤ d → LeftAs (outcomeOf (Stopped Frames (at - 1)) (n + 1) k) m q (writtenBack q₀ (ran r p m₀ (length q₀) B))
+        pub full : recipeOf r .stmts ≤ d → RunAs r p t u₀ q₀ B (outcomeOf (Stopped Frames (at - 1)) (n + 1) k) u q
         unfolding check
         full l = stopped (rw (e, frames-length st d, le-ltb d (recipeOf r .stmts) l) at begun)
 
@@ -298,42 +289,48 @@ module _ {r p m₀ q₀ m q st : List ℕ} {B n k d at tag : ℕ} (g : Stands r 
             of-act : ActOk (policyOf p) (recipeOf r) (Writes i v) → i < count (recipeOf r)
             of-act (writes l h) = l
 
-        pub writes-on : v .value < 2 ^ 32 → Stands r p m₀ q₀ (placed m i v) q st B (n + 1) k d 0 tag
-        unfolding waitingOf valueOf
-        writes-on h =
-            let R = recipeOf r in
-            let now-written = written (count R) v h m i write-below (omega (arith, g .accepted .memory .long)) in
+        write-ok : PlaceOk (policyOf p) v
+        write-ok = of-act (subst (ActOk (policyOf p) (recipeOf r)) e act-fits)
+          where
+            of-act : ActOk (policyOf p) (recipeOf r) (Writes i v) → PlaceOk (policyOf p) v
+            of-act (writes l h) = h
+
+        pub writes-on : Stands r p t u₀ q₀ (set (set u i (v .value)) (2112 + i) (v .tag)) q st B (n + 1) k d 0 tag
+        unfolding waitingOf valueOf tagOf
+        writes-on =
+            let now-written = held-write (recipeOf r) (g .ready .recipe .counts) u (g .all-places) i (v .value) (v .tag) write-below in
             moved (rw now-written (rw e at begun))
-            (g .held) (omega (arith, g .few)) (g .size) (length-placed m i v)
-            (rw (now-written, bytes-write (placesOf R m) i v (omega (arith, write-below, length-places (count R) m)), ← g .bytes))
+            (g .held) (omega (arith, g .few)) (g .size)
+            (length-set (set u i (v .value)) (2112 + i) (v .tag) ∙ length-set u i (v .value) ∙ g .all-places)
+            (ready-write (g .ready) (g .all-places) i (v .value) (v .tag) write-below (write-ok .word) (write-ok .good))
 
       module _ {port w : ℕ} (e : a ≡ Records port w) where
-        pub records-on : 5 * k + 5 ≤ length q₀ → Stands r p m₀ q₀ m (recorded q (5 * k) port w) st B (n + 1) (k + 1) d 0 tag
+        pub records-on : 5 * k + 5 ≤ length q₀ → Stands r p t u₀ q₀ u (recorded q (5 * k) port w) st B (n + 1) (k + 1) d 0 tag
         unfolding waitingOf check
         records-on l =
             moved (rw (e, g .held .counted, le-leb (5 * k + 5) (length q₀) l) at begun)
-            (more-held port w (g .held) l) (omega (arith, g .few)) (g .size) refl (g .bytes)
+            (more-held port w (g .held) l) (omega (arith, g .few)) (g .size) (g .all-places) (g .ready)
 
-        pub no-room : length q₀ < 5 * k + 5 → LeftAs (outcomeOf (Stopped Room (at - 1)) (n + 1) k) m q (writtenBack q₀ (ran r p m₀ (length q₀) B))
+        pub no-room : length q₀ < 5 * k + 5 → RunAs r p t u₀ q₀ B (outcomeOf (Stopped Room (at - 1)) (n + 1) k) u q
         unfolding check
         no-room l = stopped (rw (e, g .held .counted, lt-leb (5 * k + 5) (length q₀) l) at begun)
 
     -- ---- a frame is taken
 
     module _ (x : at ≡ 0) (y : 0 < d) where
-      module _ {f : Frame} {t : Taken} (j : f ≡ frameOf (getD st (d - 1) 0)) (asked : t ≡ takeIn r p m tag f) where
-        took : stepped ≡ leads r p m (length q₀) tag (framesOf st (d - 1)) (g .records) f t
+      module _ {f : Frame} {z : Taken} (j : f ≡ frameOf (getD st (d - 1) 0)) (asked : z ≡ takeIn r p u tag f) where
+        took : stepped ≡ leads r p u (length q₀) tag (framesOf st (d - 1)) (g .records) f z
         unfolding waitingOf
-        took = rw (x, popped st d y, asked, ← j) (by-frame r p m (length q₀) tag (framesOf st (d - 1)) (g .records) f)
+        took = rw (x, popped st d y, asked, ← j) (by-frame r p u (length q₀) tag (framesOf st (d - 1)) (g .records) f)
 
-        pub keeps-on : {a u : ℕ} → t ≡ Keeps a u → Stands r p m₀ q₀ m q st B (n + 1) k d (a + 1) u
-        keeps-on {a} e = moved ((rw e at took) ∙ rw (waits-next a, popped st d y, j)) (g .held) (omega (arith, g .few)) (g .size) refl (g .bytes)
+        pub keeps-on : {a v : ℕ} → z ≡ Keeps a v → Stands r p t u₀ q₀ u q st B (n + 1) k d (a + 1) v
+        keeps-on {a} e = moved ((rw e at took) ∙ rw (waits-next a, popped st d y, j)) (g .held) (omega (arith, g .few)) (g .size) (g .all-places) (g .ready)
 
-        pub keeps-below : {a u : ℕ} → t ≡ Keeps a u → a < recipeOf r .stmts
+        pub keeps-below : {a v : ℕ} → z ≡ Keeps a v → a < recipeOf r .stmts
         keeps-below {a} e = rw (waits-next a) at (keeps-on e .standing .waiting)
 
-        pub drops-on : {a u : ℕ} → t ≡ Drops a u → Stands r p m₀ q₀ m q st B (n + 1) k (d - 1) a u
-        drops-on e = moved (rw e at took) (g .held) (omega (arith, g .few)) (g .size) refl (g .bytes)
+        pub drops-on : {a v : ℕ} → z ≡ Drops a v → Stands r p t u₀ q₀ u q st B (n + 1) k (d - 1) a v
+        drops-on e = moved (rw e at took) (g .held) (omega (arith, g .few)) (g .size) (g .all-places) (g .ready)
 
-        pub stops-taken : {h : Stop} {s : ℕ} → t ≡ Ends h s → LeftAs (outcomeOf (Stopped h s) (n + 1) k) m q (writtenBack q₀ (ran r p m₀ (length q₀) B))
+        pub stops-taken : {h : Stop} {s : ℕ} → z ≡ Ends h s → RunAs r p t u₀ q₀ B (outcomeOf (Stopped h s) (n + 1) k) u q
         stops-taken e = stopped (rw e at took)

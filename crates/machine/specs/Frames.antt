@@ -1,5 +1,5 @@
 -- How the run keeps frames and the statement to begin. Assumes nothing.
-use Prim.Native.Nat.{ℕ, zero, suc, _/_, _%_}
+use Prim.Native.Nat.{ℕ, zero, suc, _/_, _%_, _<_}
 use mathlib.Core.List.{List, [], _∷_}
 use lib.ListN.{getD}
 use Rattle.rules.specs.declared.Frame.{Frame}
@@ -20,3 +20,9 @@ framesOf st (suc d) = frameOf (getD st d 0) ∷ framesOf st d
 unfoldable pub waitingOf : ℕ → Waiting
 waitingOf zero = Nothing
 waitingOf (suc s) = Begin s
+
+-- its numbers fit a frame word
+abbrev pub FrameSmall : Frame → Type 0
+FrameSmall (Next s) = s < 512
+FrameSmall (Join t) = t < 16
+FrameSmall (Loop s t) = (s < 512) × (t < 16)

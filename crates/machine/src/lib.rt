@@ -1,19 +1,22 @@
 // The run of accepted tables, and the library's entry, which checks everything and runs.
 ghost use mathlib.Core.Path.{_≡_};
-ghost use Prim.Native.Nat.{_+_, _*_, _<_, _≤_};
-ghost use lib.ListN.{length};
+ghost use mathlib.Core.List.{List};
+ghost use Prim.Native.Nat.{ℕ, _+_, _*_, _<_, _≤_};
+ghost use lib.ListN.{length, set};
 ghost use Rattle.rules.specs.Bytes.{byte};
 ghost use Rattle.rules.specs.Recipe.{recipeOf};
 ghost use Rattle.rules.specs.Judged.{outcomeOf, writtenBack, ran, checks, judged};
 ghost use Rattle.rules.specs.Accepted.{Accepted};
-ghost use Rattle.machine.specs.Frames.{frameOf};
-ghost use Rattle.machine.specs.Turns.{loopTaken, takeIn, FrameFits, LeftAs};
+ghost use Rattle.layout.specs.Places.{Ready};
+ghost use Rattle.machine.specs.Frames.{frameOf, FrameSmall};
+ghost use Rattle.machine.specs.Turns.{loopTaken, takeIn, FrameFits, LeftAs, FrameGiven, RunGiven, RunAs};
 use rules::Act;
 use rules::Again;
 use rules::Checked;
 use rules::End;
 use rules::Frame;
 use rules::Outcome;
+use rules::Place;
 use rules::Refusal;
 use rules::Stop;
 
@@ -48,8 +51,8 @@ fn frame_of(w: u32) -> Frame
     }
 }
 
-fn word_of(r: &[u8], p: &[u8], f: Frame) -> u32
-    requires { ⌜ (recipeOf (now r) .stmts ≤ 512) × (byte (now p) 6 ≤ 16) × FrameFits (now r) (now p) f ⌝ }
+fn word_of(f: Frame) -> u32
+    requires { ⌜ FrameSmall f ⌝ }
     ensures { λ w. ⌜ frameOf w ≡ f ⌝ }
 {
     match f {
@@ -69,25 +72,32 @@ fn loop_taken(s: usize, t: u8, a: Again) -> Taken
     }
 }
 
-fn take(r: &[u8], p: &[u8], m: &[u8], f: Frame, tag: u8) -> Taken
-    requires { ⌜ Accepted (now r) (now p) (now m) × (tag < byte (now p) 6) × FrameFits (now r) (now p) f ⌝ }
-    ensures { λ k. ⌜ k ≡ takeIn (now (r .entry)) (now (p .entry)) (now (m .entry)) tag f ⌝ }
+fn take(t: &[u16; 8466], u: &[u32; 4224], f: Frame, tag: u8) -> Taken
+    requires { ⌜ FrameGiven (now t) (now u) f tag ⌝ }
+    ensures { λ k. ⌜ ((r p : List ℕ) → Ready r p (now (t .entry)) (now (u .entry)) → tag < byte p 6 → FrameFits r p f → k ≡ takeIn r p (now (u .entry)) tag f) ⌝ }
 {
     match f {
         Frame::Next(a) => Taken::Drops(a + 1, tag),
-        Frame::Join(t) => Taken::Drops(0, t),
-        Frame::Loop(s, t) => loop_taken(s, t, steps::again(r, p, m, s, tag)),
+        Frame::Join(g) => Taken::Drops(0, g),
+        Frame::Loop(s, g) => loop_taken(s, g, steps::again(t, u, s, tag)),
     }
 }
 
 // ---- the run
 
-// One loop over a state by value: the stack is never copied, and only here is anything changed.
-fn run(r: &[u8], p: &[u8], m: &mut [u8], q: &mut [u8], budget: u32) -> Outcome
-    requires { ⌜ Accepted (now r) (now p) (now m) ⌝ }
-    ensures { λ o. ⌜ LeftAs o (now (m .exit)) (now (q .exit)) (writtenBack (now (q .entry)) (ran (now (r .entry)) (now (p .entry)) (now (m .entry)) (length (now (q .entry))) budget)) ⌝ }
+fn put_place(u: &mut [u32; 4224], i: usize, v: Place)
+    requires { ⌜ i < 2112 ⌝ }
+    ensures { λ _. ⌜ now (u .exit) ≡ set (set (now (u .entry)) i (v .value)) (2112 + i) (v .tag) ⌝ }
 {
-    let limit = tables::half_at(r, 8);
+    u[i] = v.value;
+    u[2112 + i] = v.tag as u32;
+}
+
+// One loop over a state by value: the stack is never copied, and only here is anything changed.
+fn run(t: &[u16; 8466], u: &mut [u32; 4224], limit: usize, q: &mut [u8], budget: u32) -> Outcome
+    requires { ⌜ RunGiven (now t) (now u) limit ⌝ }
+    ensures { λ o. ⌜ ((r p : List ℕ) → Ready r p (now (t .entry)) (now (u .entry)) → limit ≡ recipeOf r .stmts → RunAs r p (now (t .entry)) (now (u .entry)) (now (q .entry)) budget o (now (u .exit)) (now (q .exit))) ⌝ }
+{
     let mut x = State {
         stack: [0u32; 512],
         depth: 0,
@@ -117,16 +127,16 @@ fn run(r: &[u8], p: &[u8], m: &mut [u8], q: &mut [u8], budget: u32) -> Outcome
             }
             steps = steps + 1;
             let w = x.stack[depth - 1];
-            let k = take(r, p, m, frame_of(w), tag);
+            let k = take(t, u, frame_of(w), tag);
             match k {
-                Taken::Keeps(next, t) => {
+                Taken::Keeps(next, g) => {
                     x.at = next + 1;
-                    x.tag = t;
+                    x.tag = g;
                 }
-                Taken::Drops(next, t) => {
+                Taken::Drops(next, g) => {
                     x.depth = depth - 1;
                     x.at = next;
-                    x.tag = t;
+                    x.tag = g;
                 }
                 Taken::Ends(h, s) => {
                     return Outcome {
@@ -146,12 +156,12 @@ fn run(r: &[u8], p: &[u8], m: &mut [u8], q: &mut [u8], budget: u32) -> Outcome
             }
             steps = steps + 1;
             let s = at - 1;
-            let a = steps::begin(r, p, m, s, tag);
+            let a = steps::begin(t, u, s, tag);
             match a {
                 Act::Passes => {
                     x.at = 0;
                 }
-                Act::Pushes(f, next, t) => {
+                Act::Pushes(f, next, g) => {
                     if limit <= depth {
                         return Outcome {
                             end: End::Stopped(Stop::Frames, s),
@@ -159,13 +169,13 @@ fn run(r: &[u8], p: &[u8], m: &mut [u8], q: &mut [u8], budget: u32) -> Outcome
                             records: records,
                         };
                     }
-                    x.stack[depth] = word_of(r, p, f);
+                    x.stack[depth] = word_of(f);
                     x.depth = depth + 1;
                     x.at = next + 1;
-                    x.tag = t;
+                    x.tag = g;
                 }
                 Act::Writes(i, v) => {
-                    memory::put_place(m, i, v);
+                    put_place(u, i, v);
                     x.at = 0;
                 }
                 Act::Records(port, w) => {
@@ -191,6 +201,20 @@ fn run(r: &[u8], p: &[u8], m: &mut [u8], q: &mut [u8], budget: u32) -> Outcome
             }
         }
     }
+}
+
+// Accepted tables are decoded once; the memory's bytes are written when the run has ended.
+fn run_accepted(r: &[u8], p: &[u8], m: &mut [u8], q: &mut [u8], budget: u32) -> Outcome
+    requires { ⌜ Accepted (now r) (now p) (now m) ⌝ }
+    ensures { λ o. ⌜ LeftAs o (now (m .exit)) (now (q .exit)) (writtenBack (now (q .entry)) (ran (now (r .entry)) (now (p .entry)) (now (m .entry)) (length (now (q .entry))) budget)) ⌝ }
+{
+    let mut t = [0u16; 8466];
+    let mut u = [0u32; 4224];
+    decode::decode(r, p, &mut t);
+    decode::load(r, m, &mut u);
+    let o = run(&t, &mut u, tables::half_at(r, 8), q, budget);
+    decode::write_back(&u, tables::half_at(r, 10) + tables::half_at(r, 12), m);
+    o
 }
 
 // ---- the library's entry
@@ -231,6 +255,6 @@ pub fn judge(r: &[u8], p: &[u8], m: &mut [u8], q: &mut [u8], budget: u32) -> Out
     let c = check(r, p, m);
     match c {
         Checked::Failed(x) => refuse(x),
-        Checked::Passed => run(r, p, m, q, budget),
+        Checked::Passed => run_accepted(r, p, m, q, budget),
     }
 }

@@ -14,7 +14,7 @@ use Rattle.rules.specs.Bytes.{Bytes, byte, half, whole, wholeBytes}
 use Rattle.rules.specs.Policy.{Policy, policyOf}
 use Rattle.rules.specs.Recipe.{Recipe, recipeOf, exprIf, unaryExpr, binaryExpr, exprOf, expr}
 use Rattle.rules.specs.Memory.{Memory, _#_, valueOf, tagOf, placeAt, places, count, placesOf, placeBytes, Record, out, recordBytes, recordsOf}
-use Rattle.rules.specs.Accepted.{LawfulPolicy, WellTagged, Accepted}
+use Rattle.rules.specs.Accepted.{WellFormed, LawfulPolicy, WellTagged, Accepted}
 use Rattle.rules.proofs.Tags.{Lawful, Good}
 use Rattle.rules.proofs.Standing.{WordIn, Sound, PlaceOk, PlacesOk, WordsOk}
 
@@ -88,15 +88,18 @@ lawful p ok =
         let e : length p ≤ 8 + byte p 6 * byte p 6 + port = omega (arith, ok .long) in
         rw (List·getD-eq-default p 0 e) (ok .some-tag)
 
-pub sound : (r p m : List ℕ) → Bytes r → Accepted r p m → Sound (policyOf p) (recipeOf r)
+pub sound-of : (r p : List ℕ) → Bytes r → WellFormed r → LawfulPolicy p → Sound (policyOf p) (recipeOf r)
 unfolding expr
-sound r p m small a =
+sound-of r p small a ok =
     record {
-      lawful = lawful p (a .policy);
-      ordered = a .recipe .ordered;
-      some-stmt = a .recipe .counts .some-stmt;
+      lawful = lawful p ok;
+      ordered = a .ordered;
+      some-stmt = a .counts .some-stmt;
       words = λ e. word-in _ _ _ _ (whole-below r small (16 + 8 * e + 4));
     }
+
+pub sound : (r p m : List ℕ) → Bytes r → Accepted r p m → Sound (policyOf p) (recipeOf r)
+sound r p m small a = sound-of r p small (a .recipe) (a .policy)
 
 -- ---- the memory
 

@@ -1,38 +1,153 @@
--- How what is asked follows from a record, from a value and from a test. Assumes nothing.
-use Prim.Native.Nat.{ℕ, zero, suc, _<_}
-use mathlib.Core.Path.{_≡_, refl}
+-- How what is asked follows from answers, tags and tests on the decoded tables. Assumes nothing.
+use Prim.Native.Nat.{ℕ, zero, suc, _+_, _-_, _/_, _<_, _≤_}
+use native.Mathlib.Omega.{arith}
+use mathlib.Core.Path.{_≡_, refl, sym, ap, _∙_}
+use mathlib.Core.Bool.{true, false}
 use mathlib.Core.List.{List}
-use Rattle.rules.specs.declared.Stmt.{Stmt}
+use lib.Dec.{ltb}
+use lib.ListN.{getD}
+use borrow.Author.Tests.{le-ltb, lt-ltb}
 use Rattle.rules.specs.declared.Place.{Place}
 use Rattle.rules.specs.declared.Valued.{Valued}
-use Rattle.rules.specs.declared.Valued.the-variants.{Value}
+use Rattle.rules.specs.declared.Valued.the-variants.{Value, Fault}
 use Rattle.rules.specs.Bytes.{byte}
+use Rattle.rules.specs.Policy.{Policy, policyOf, under}
 use Rattle.rules.specs.Recipe.{recipeOf}
-use Rattle.rules.specs.Memory.{tagOf}
+use Rattle.rules.specs.Memory.{_#_, valueOf, tagOf, placeAt, count}
 use Rattle.rules.specs.Steps.{test}
-use Rattle.rules.specs.Accepted.{StmtOk, PortOk, Accepted}
-use Rattle.eval.specs.Values.{valueIn}
-use Rattle.eval.proofs.Values.{tagged-as}
+use Rattle.rules.proofs.Standing.{proper}
+use Rattle.rules.proofs.Tags.{is-under, under-is}
+use Rattle.rules.proofs.Tests.{fails}
+use Rattle.layout.specs.Tables.{joinIn}
+use Rattle.layout.specs.Places.{Ready, heldIn, valueIn}
+use Rattle.layout.specs.Answers.{answerOf, stopFrom}
+use Rattle.layout.proofs.Places.{sound-ready, places-ready, place-held}
+use Rattle.layout.proofs.Answers.{Answer, answers, worth, failed}
+use Rattle.steps.specs.Asks.{worthOf}
 
-module _ {r p m : List ℕ} (a : Accepted r p m) where
-  -- the tag of a value that was found
-  pub tag-found : {v : Place} {o : Valued} (e : ℕ) → o ≡ valueIn r p m e → o ≡ Value v → v .tag < byte p 6
-  unfolding tagOf
-  tag-found e q k = rw k at (tagged-as a e q)
+-- ---- answers
 
-  module _ {s : ℕ} (l : s < recipeOf r .stmts) {x : Stmt} (q : x ≡ recipeOf r .stmtAt s) where
-    pub stmt-ok : StmtOk (recipeOf r .vars) (recipeOf r .exprs) s x
-    stmt-ok = rw q (a .recipe .ordered .stmts-ok s l)
+place-is : (p : Place) {v g : ℕ} → v ≡ valueOf p → g ≡ tagOf p → p ≡ v # g
+unfolding valueOf tagOf
+place-is p e f = rw (e, f)
 
-    pub port-ok : PortOk (byte p 7) x
-    port-ok = rw q (a .ports s l)
+module _ {P : Policy} {x : ℕ} where
+  found : {o : Valued} → Answer P x o → x < 9223372036854775808 → o ≡ Value (worthOf x)
+  found (worth {p = p} l v g k) h = ap Value (place-is p v g)
+  found (failed l e) h = absurd (omega arith)
 
--- a value that is not zero is true
-pub test-true : {A : Type 0} {v : ℕ} → (v ≡ 0 → ⊥) → (x y : A) → test v x y ≡ x
+  lost : {o : Valued} → Answer P x o → 9223372036854775808 ≤ x → o ≡ Fault (stopFrom (x - 9223372036854775808))
+  lost (worth l v g k) h = absurd (omega arith)
+  lost (failed l e) h = rw e
+
+  tagged : {o : Valued} → Answer P x o → x < 9223372036854775808 → x / 4294967296 < P .tags
+  tagged (worth l v g k) h = rw g (k .good)
+  tagged (failed l e) h = absurd (omega arith)
+
+-- what evaluating expression e answered
+abbrev Answered : (t u : List ℕ) (e x : ℕ) → Type 0
+Answered t u e x = (r p : List ℕ) → Ready r p t u → e < recipeOf r .exprs → x ≡ answerOf (valueIn r p u e)
+
+module _ {r p t u : List ℕ} (a : Ready r p t u) where
+  module _ {e : ℕ} (h : e < recipeOf r .exprs) {x : ℕ} (q : Answered t u e x) where
+    answer : Answer (policyOf p) x (valueIn r p u e)
+    answer = answers (a .policy .few-tags) (proper (sound-ready a) (places-ready a) e) (q r p a h)
+
+    pub value-found : x < 9223372036854775808 → valueIn r p u e ≡ Value (worthOf x)
+    value-found = found answer
+
+    pub value-lost : 9223372036854775808 ≤ x → valueIn r p u e ≡ Fault (stopFrom (x - 9223372036854775808))
+    value-lost = lost answer
+
+    pub tag-found : x < 9223372036854775808 → x / 4294967296 < byte p 6
+    tag-found = tagged answer
+
+  -- ---- places
+
+  pub var-in : {i : ℕ} → i < recipeOf r .vars → i < count (recipeOf r)
+  var-in h = omega arith
+
+  pub held-given : {i : ℕ} → i < count (recipeOf r) → (i < 2112) × (getD u (2112 + i) 0 < 256)
+  held-given {i} h =
+      let few = a .recipe .counts in
+      (omega (arith, few .few-vars, few .few-cells), omega (arith, a .tags-below i h, a .policy .few-tags))
+
+  module _ {w n : ℕ} (q : w ≡ n) where
+    pub index-off : getD t 8465 0 ≤ w → ltb n (recipeOf r .cells) ≡ false
+    index-off h = le-ltb n (recipeOf r .cells) (omega (arith, a .decoded .cells-as))
+
+    pub index-in : w < getD t 8465 0 → ltb n (recipeOf r .cells) ≡ true
+    index-in h = lt-ltb n (recipeOf r .cells) (omega (arith, a .decoded .cells-as))
+
+    pub cell-is : getD t 8464 0 + w ≡ recipeOf r .vars + n
+    cell-is = omega (arith, a .decoded .vars-as)
+
+    -- the index was held against the number of cells as v
+    pub cell-in : {v : ℕ} → v ≡ n → v < getD t 8465 0 → getD t 8464 0 + w < count (recipeOf r)
+    cell-in e h = omega (arith, a .decoded .vars-as, a .decoded .cells-as)
+
+  -- ---- tags
+
+  pub byte-low : {b : ℕ} → b < byte p 6 → b < 256
+  byte-low h = omega (arith, a .policy .few-tags)
+
+  pub held-good : {i g : ℕ} → i < count (recipeOf r) → g ≡ getD u (2112 + i) 0 → g < byte p 6
+  held-good {i} h q = rw q (a .tags-below i h)
+
+  module _ {port : ℕ} (h : port < byte p 7) where
+    pub clearance-is : getD t (8448 + port) 0 ≡ policyOf p .clearance port
+    clearance-is = a .decoded .clearances-as port h
+
+    pub clearance-good : getD t (8448 + port) 0 < byte p 6
+    clearance-good = rw clearance-is (sound-ready a .lawful .clearance-below port)
+
+  module _ {b g : ℕ} (hb : b < byte p 6) (hg : g < byte p 6) where
+    join-as : joinIn t b g ≡ policyOf p .join b g
+    join-as = a .decoded .joins-as b g hb hg
+
+    join-low : joinIn t b g < byte p 6
+    join-low = rw join-as (sound-ready a .lawful .join-below b g hb hg)
+
+    pub join-given : (b < 16) × (g < 16) × (joinIn t b g < 256)
+    join-given = (omega (arith, a .policy .few-tags), omega (arith, a .policy .few-tags), byte-low join-low)
+
+    module _ {j : ℕ} (q : j ≡ joinIn t b g) where
+      pub join-is : j ≡ policyOf p .join b g
+      join-is = q ∙ join-as
+
+      pub join-good : j < byte p 6
+      join-good = rw q join-low
+
+      pub lies-under : j ≡ g → under (policyOf p) b g ≡ true
+      lies-under e = is-under (policyOf p) b g (sym join-is ∙ e)
+
+      pub lies-off : (j ≡ g → ⊥) → under (policyOf p) b g ≡ false
+      lies-off n = fails (under (policyOf p) b g) (λ e. absurd (n (join-is ∙ under-is (policyOf p) b g e)))
+
+  -- g is the tag of place i, and j its join with b
+  module _ {b i g j : ℕ} (hb : b < byte p 6) (h : i < count (recipeOf r)) (q : g ≡ getD u (2112 + i) 0) (k : j ≡ joinIn t b g) where
+    tag-held : g ≡ tagOf (placeAt (heldIn (recipeOf r) u) i)
+    unfolding tagOf
+    tag-held = rw (q, place-held (recipeOf r) u i h)
+
+    pub held-under : j ≡ g → under (policyOf p) b (tagOf (placeAt (heldIn (recipeOf r) u) i)) ≡ true
+    held-under e = rw tag-held at (lies-under hb (held-good h q) k e)
+
+    pub held-off : (j ≡ g → ⊥) → under (policyOf p) b (tagOf (placeAt (heldIn (recipeOf r) u) i)) ≡ false
+    held-off n = rw tag-held at (lies-off hb (held-good h q) k n)
+
+pub same-below : {g n m : ℕ} → g ≡ n → n < m → g < m
+same-below q h = rw q h
+
+-- ---- tests
+
+-- a value, held as w, that is not zero is true
+pub test-true : {A : Type 0} {w v : ℕ} → w ≡ v → (w ≡ 0 → ⊥) → (x y : A) → test v x y ≡ x
 unfolding test
-test-true {v = zero} h x y = absurd (h refl)
-test-true {v = suc v} h x y = refl
+test-true {v = zero} q h x y = absurd (h q)
+test-true {v = suc v} q h x y = refl
 
-pub test-false : {A : Type 0} {v : ℕ} → v ≡ 0 → (x y : A) → test v x y ≡ y
+pub test-false : {A : Type 0} {w v : ℕ} → w ≡ v → w ≡ 0 → (x y : A) → test v x y ≡ y
 unfolding test
-test-false h x y = rw h
+test-false {v = zero} q h x y = refl
+test-false {v = suc v} q h x y = absurd (omega arith)

@@ -1,185 +1,157 @@
 // What beginning a statement, and testing a loop again, asks of the state: decided here, and carried out by the run.
+
 ghost use mathlib.Core.Path.{_≡_};
-ghost use Prim.Native.Nat.{_<_};
+ghost use mathlib.Core.List.{List};
+ghost use Prim.Native.Nat.{ℕ, _<_};
 ghost use Rattle.rules.specs.Bytes.{byte};
 ghost use Rattle.rules.specs.Recipe.{recipeOf};
-ghost use Rattle.rules.specs.Accepted.{Accepted};
-ghost use Rattle.steps.specs.Asks.{assignIn, storeBy, storeIn, emitIn, chooseIn, loopBegun, beginIn, testIn, againIn};
+ghost use Rattle.layout.specs.Places.{Ready, StmtGiven};
+ghost use Rattle.steps.specs.Asks.{Tests, Assigns, Stores, StoresBy, Emits, Given, assignIn, storeIn, storeBy, chooseIn, loopBegun, emitIn, beginIn, againIn};
 use rules::Act;
 use rules::Again;
 use rules::Frame;
 use rules::Place;
-use rules::Stmt;
 use rules::Stop;
-use rules::Valued;
 
-fn assign(r: &[u8], p: &[u8], m: &[u8], tag: u8, x: usize, e: usize) -> Act
-    requires { ⌜ Accepted (now r) (now p) (now m) × (tag < byte (now p) 6) × (x < recipeOf (now r) .vars) × (e < recipeOf (now r) .exprs) ⌝ }
-    ensures { λ a. ⌜ a ≡ assignIn (now (r .entry)) (now (p .entry)) (now (m .entry)) tag x e ⌝ }
+const FAULT: u64 = 9223372036854775808;
+
+fn assign(t: &[u16; 8466], u: &[u32; 4224], tag: u8, x: usize, e: usize) -> Act
+    requires { ⌜ Given (now t) (now u) tag (Assigns x e) ⌝ }
+    ensures { λ k. ⌜ ((r p : List ℕ) → Ready r p (now (t .entry)) (now (u .entry)) → tag < byte p 6 → Assigns x e r p → k ≡ assignIn r p (now (u .entry)) tag x e) ⌝ }
 {
-    let o = eval::value(r, p, m, e);
-    match o {
-        Valued::Value(v) => {
-            let old = eval::place(r, p, m, x);
-            if policy::is_under(p, tag, old.tag) {
-                let t = policy::join(p, tag, v.tag);
-                return Act::Writes(
-                    x,
-                    Place {
-                        value: v.value,
-                        tag: t,
-                    },
-                );
-            }
-            Act::Stops(Stop::AssignTag)
-        }
-        Valued::Fault(h) => Act::Stops(h),
+    let v = eval::value(t, u, e);
+    if FAULT <= v {
+        return Act::Stops(eval::stop_of(v));
     }
+    let old = eval::tag_at(u, x);
+    if eval::join(t, tag, old) != old {
+        return Act::Stops(Stop::AssignTag);
+    }
+    Act::Writes(
+        x,
+        Place {
+            value: eval::word_of(v),
+            tag: eval::join(t, tag, eval::tag_of(v)),
+        },
+    )
 }
 
-// The index and the value are there.
-fn store_at(r: &[u8], p: &[u8], m: &[u8], tag: u8, i: Place, v: Place) -> Act
-    requires { ⌜ Accepted (now r) (now p) (now m) × (tag < byte (now p) 6) × (i .tag < byte (now p) 6) × (v .tag < byte (now p) 6) ⌝ }
-    ensures { λ a. ⌜ a ≡ storeBy (now (r .entry)) (now (p .entry)) (now (m .entry)) tag (Valued.Value i) (Valued.Value v) ⌝ }
+// the index and the value are there
+fn store_at(t: &[u16; 8466], u: &[u32; 4224], tag: u8, i: u64, v: u64) -> Act
+    requires { ⌜ Given (now t) (now u) tag (StoresBy i v) ⌝ }
+    ensures { λ k. ⌜ ((r p : List ℕ) → Ready r p (now (t .entry)) (now (u .entry)) → tag < byte p 6 → StoresBy i v r p → k ≡ storeBy r p (now (u .entry)) tag i v) ⌝ }
 {
-    let x = i.value as usize;
-    if tables::half_at(r, 12) <= x {
+    if (t[8465] as u32) <= eval::word_of(i) {
         return Act::Stops(Stop::Index);
     }
-    let n = tables::half_at(r, 10) + x;
-    let old = eval::place(r, p, m, n);
-    let b = policy::join(p, tag, i.tag);
-    if policy::is_under(p, b, old.tag) {
-        let t = policy::join(p, b, v.tag);
-        return Act::Writes(
-            n,
-            Place {
-                value: v.value,
-                tag: t,
-            },
-        );
+    let x = (t[8464] as usize) + (eval::word_of(i) as usize);
+    let b = eval::join(t, tag, eval::tag_of(i));
+    let old = eval::tag_at(u, x);
+    if eval::join(t, b, old) != old {
+        return Act::Stops(Stop::StoreTag);
     }
-    Act::Stops(Stop::StoreTag)
+    Act::Writes(
+        x,
+        Place {
+            value: eval::word_of(v),
+            tag: eval::join(t, b, eval::tag_of(v)),
+        },
+    )
 }
 
-fn store(r: &[u8], p: &[u8], m: &[u8], tag: u8, i: usize, e: usize) -> Act
-    requires { ⌜ Accepted (now r) (now p) (now m) × (tag < byte (now p) 6) × (i < recipeOf (now r) .exprs) × (e < recipeOf (now r) .exprs) ⌝ }
-    ensures { λ a. ⌜ a ≡ storeIn (now (r .entry)) (now (p .entry)) (now (m .entry)) tag i e ⌝ }
+fn store(t: &[u16; 8466], u: &[u32; 4224], tag: u8, i: usize, e: usize) -> Act
+    requires { ⌜ Given (now t) (now u) tag (Stores i e) ⌝ }
+    ensures { λ k. ⌜ ((r p : List ℕ) → Ready r p (now (t .entry)) (now (u .entry)) → tag < byte p 6 → Stores i e r p → k ≡ storeIn r p (now (u .entry)) tag i e) ⌝ }
 {
-    let g = eval::value(r, p, m, i);
-    match g {
-        Valued::Value(x) => {
-            let o = eval::value(r, p, m, e);
-            match o {
-                Valued::Value(v) => store_at(r, p, m, tag, x, v),
-                Valued::Fault(h) => Act::Stops(h),
-            }
-        }
-        Valued::Fault(h) => Act::Stops(h),
+    let x = eval::value(t, u, i);
+    if FAULT <= x {
+        return Act::Stops(eval::stop_of(x));
     }
+    let v = eval::value(t, u, e);
+    if FAULT <= v {
+        return Act::Stops(eval::stop_of(v));
+    }
+    store_at(t, u, tag, x, v)
 }
 
-fn emit(r: &[u8], p: &[u8], m: &[u8], tag: u8, port: u8, e: usize) -> Act
-    requires { ⌜ Accepted (now r) (now p) (now m) × (tag < byte (now p) 6) × (port < byte (now p) 7) × (e < recipeOf (now r) .exprs) ⌝ }
-    ensures { λ a. ⌜ a ≡ emitIn (now (r .entry)) (now (p .entry)) (now (m .entry)) tag port e ⌝ }
+fn choose(t: &[u16; 8466], u: &[u32; 4224], tag: u8, e: usize, a: usize, c: usize) -> Act
+    requires { ⌜ Given (now t) (now u) tag (Tests e) ⌝ }
+    ensures { λ k. ⌜ ((r p : List ℕ) → Ready r p (now (t .entry)) (now (u .entry)) → tag < byte p 6 → Tests e r p → k ≡ chooseIn r p (now (u .entry)) tag e a c) ⌝ }
 {
-    let o = eval::value(r, p, m, e);
-    match o {
-        Valued::Value(v) => {
-            let t = policy::join(p, tag, v.tag);
-            let c = policy::clearance(p, port);
-            if policy::is_under(p, t, c) {
-                return Act::Records(port, v.value);
-            }
-            Act::Stops(Stop::EmitTag)
-        }
-        Valued::Fault(h) => Act::Stops(h),
+    let v = eval::value(t, u, e);
+    if FAULT <= v {
+        return Act::Stops(eval::stop_of(v));
     }
+    let b = eval::join(t, tag, eval::tag_of(v));
+    if eval::word_of(v) == 0 {
+        return Act::Pushes(Frame::Join(tag), c, b);
+    }
+    Act::Pushes(Frame::Join(tag), a, b)
 }
 
-fn choose(r: &[u8], p: &[u8], m: &[u8], tag: u8, e: usize, a: usize, c: usize) -> Act
-    requires { ⌜ Accepted (now r) (now p) (now m) × (tag < byte (now p) 6) × (e < recipeOf (now r) .exprs) ⌝ }
-    ensures { λ x. ⌜ x ≡ chooseIn (now (r .entry)) (now (p .entry)) (now (m .entry)) tag e a c ⌝ }
+fn begin_loop(t: &[u16; 8466], u: &[u32; 4224], tag: u8, s: usize, e: usize, a: usize) -> Act
+    requires { ⌜ Given (now t) (now u) tag (Tests e) ⌝ }
+    ensures { λ k. ⌜ ((r p : List ℕ) → Ready r p (now (t .entry)) (now (u .entry)) → tag < byte p 6 → Tests e r p → k ≡ loopBegun r p (now (u .entry)) tag s e a) ⌝ }
 {
-    let o = eval::value(r, p, m, e);
-    match o {
-        Valued::Value(v) => {
-            let t = policy::join(p, tag, v.tag);
-            if v.value == 0 {
-                return Act::Pushes(Frame::Join(tag), c, t);
-            }
-            Act::Pushes(Frame::Join(tag), a, t)
-        }
-        Valued::Fault(h) => Act::Stops(h),
+    let v = eval::value(t, u, e);
+    if FAULT <= v {
+        return Act::Stops(eval::stop_of(v));
     }
+    if eval::word_of(v) == 0 {
+        return Act::Passes;
+    }
+    Act::Pushes(Frame::Loop(s, tag), a, eval::join(t, tag, eval::tag_of(v)))
 }
 
-fn repeat(r: &[u8], p: &[u8], m: &[u8], s: usize, tag: u8, e: usize, a: usize) -> Act
-    requires { ⌜ Accepted (now r) (now p) (now m) × (tag < byte (now p) 6) × (e < recipeOf (now r) .exprs) ⌝ }
-    ensures { λ x. ⌜ x ≡ loopBegun (now (r .entry)) (now (p .entry)) (now (m .entry)) tag s e a ⌝ }
+fn emit(t: &[u16; 8466], u: &[u32; 4224], tag: u8, port: usize, e: usize) -> Act
+    requires { ⌜ Given (now t) (now u) tag (Emits port e) ⌝ }
+    ensures { λ k. ⌜ ((r p : List ℕ) → Ready r p (now (t .entry)) (now (u .entry)) → tag < byte p 6 → Emits port e r p → k ≡ emitIn r p (now (u .entry)) tag port e) ⌝ }
 {
-    let o = eval::value(r, p, m, e);
-    match o {
-        Valued::Value(v) => {
-            if v.value == 0 {
-                return Act::Passes;
-            }
-            let t = policy::join(p, tag, v.tag);
-            Act::Pushes(Frame::Loop(s, tag), a, t)
-        }
-        Valued::Fault(h) => Act::Stops(h),
+    let v = eval::value(t, u, e);
+    if FAULT <= v {
+        return Act::Stops(eval::stop_of(v));
     }
+    let clearance = t[8448 + port] as u8;
+    let b = eval::join(t, tag, eval::tag_of(v));
+    if eval::join(t, b, clearance) != clearance {
+        return Act::Stops(Stop::EmitTag);
+    }
+    Act::Records(port as u8, eval::word_of(v))
 }
 
-// Statement s is begun under branch tag `tag`.
-pub fn begin(r: &[u8], p: &[u8], m: &[u8], s: usize, tag: u8) -> Act
-    requires { ⌜ Accepted (now r) (now p) (now m) × (tag < byte (now p) 6) × (s < recipeOf (now r) .stmts) ⌝ }
-    ensures { λ x. ⌜ x ≡ beginIn (now (r .entry)) (now (p .entry)) (now (m .entry)) tag s ⌝ }
+pub fn begin(t: &[u16; 8466], u: &[u32; 4224], s: usize, tag: u8) -> Act
+    requires { ⌜ StmtGiven (now t) (now u) s tag ⌝ }
+    ensures { λ a. ⌜ ((r p : List ℕ) → Ready r p (now (t .entry)) (now (u .entry)) → s < recipeOf r .stmts → tag < byte p 6 → a ≡ beginIn r p (now (u .entry)) tag s) ⌝ }
 {
-    let k = tables::stmt_at(r, s);
-    match k {
-        Stmt::Skip => Act::Passes,
-        Stmt::Assign(x, e) => assign(r, p, m, tag, x, e),
-        Stmt::Store(i, e) => store(r, p, m, tag, i, e),
-        Stmt::Then(a, c) => Act::Pushes(Frame::Next(c), a, tag),
-        Stmt::If(e, a, c) => choose(r, p, m, tag, e, a, c),
-        Stmt::While(e, a) => repeat(r, p, m, s, tag, e, a),
-        Stmt::Emit(port, e) => emit(r, p, m, tag, port, e),
-        Stmt::BadStmt => Act::Passes,
+    let o = 4096 + 4 * s;
+    let a = t[o + 1] as usize;
+    let b = t[o + 2] as usize;
+    match t[o] {
+        0 => Act::Passes,
+        1 => assign(t, u, tag, a, b),
+        2 => store(t, u, tag, a, b),
+        3 => Act::Pushes(Frame::Next(b), a, tag),
+        4 => choose(t, u, tag, a, b, t[o + 3] as usize),
+        5 => begin_loop(t, u, tag, s, a, b),
+        _ => emit(t, u, tag, b, a),
     }
 }
 
-fn test_again(r: &[u8], p: &[u8], m: &[u8], tag: u8, e: usize, a: usize) -> Again
-    requires { ⌜ Accepted (now r) (now p) (now m) × (tag < byte (now p) 6) × (e < recipeOf (now r) .exprs) ⌝ }
-    ensures { λ x. ⌜ x ≡ testIn (now (r .entry)) (now (p .entry)) (now (m .entry)) tag e a ⌝ }
+// The statement of a Loop frame is a while.
+pub fn again(t: &[u16; 8466], u: &[u32; 4224], s: usize, tag: u8) -> Again
+    requires { ⌜ StmtGiven (now t) (now u) s tag ⌝ }
+    ensures { λ a. ⌜ ((r p : List ℕ) → Ready r p (now (t .entry)) (now (u .entry)) → s < recipeOf r .stmts → tag < byte p 6 → a ≡ againIn r p (now (u .entry)) tag s) ⌝ }
 {
-    let o = eval::value(r, p, m, e);
-    match o {
-        Valued::Value(v) => {
-            if v.value == 0 {
-                return Again::Leaves;
-            }
-            let t = policy::join(p, tag, v.tag);
-            Again::Repeats(a, t)
-        }
-        Valued::Fault(h) => Again::Fails(h),
+    let o = 4096 + 4 * s;
+    if t[o] != 5 {
+        return Again::Leaves;
     }
-}
-
-// The while that a Loop frame names is tested again under branch tag `tag`.
-pub fn again(r: &[u8], p: &[u8], m: &[u8], s: usize, tag: u8) -> Again
-    requires { ⌜ Accepted (now r) (now p) (now m) × (tag < byte (now p) 6) × (s < recipeOf (now r) .stmts) ⌝ }
-    ensures { λ x. ⌜ x ≡ againIn (now (r .entry)) (now (p .entry)) (now (m .entry)) tag s ⌝ }
-{
-    let k = tables::stmt_at(r, s);
-    match k {
-        Stmt::While(e, a) => test_again(r, p, m, tag, e, a),
-        Stmt::Skip => Again::Leaves,
-        Stmt::Assign(_, _) => Again::Leaves,
-        Stmt::Store(_, _) => Again::Leaves,
-        Stmt::Then(_, _) => Again::Leaves,
-        Stmt::If(_, _, _) => Again::Leaves,
-        Stmt::Emit(_, _) => Again::Leaves,
-        Stmt::BadStmt => Again::Leaves,
+    let v = eval::value(t, u, t[o + 1] as usize);
+    if FAULT <= v {
+        return Again::Fails(eval::stop_of(v));
     }
+    if eval::word_of(v) == 0 {
+        return Again::Leaves;
+    }
+    Again::Repeats(t[o + 2] as usize, eval::join(t, tag, eval::tag_of(v)))
 }

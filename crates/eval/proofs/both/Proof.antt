@@ -1,28 +1,23 @@
--- The operator is carried out where its divisor allows. Assumes nothing.
-use mathlib.Core.Path.{sym, _∙_}
-use Rattle.rules.specs.Memory.{valueOf, tagOf}
-use Rattle.rules.specs.Steps.{given}
+-- The tags are joined and packed with the word. Assumes nothing.
 use borrow.Author.Needs.{needs}
 use Rattle.eval.proofs.both.Statement.{statement}
 use Rattle.eval.proofs.both.Tie as tie
 
-can-divide-requires : tie.Need-can-divide-requires
-can-divide-requires c κs = search needs
+tag-of-requires : tie.Need-tag-of-requires
+tag-of-requires c κs = search needs
+
+tag-of-requires-2 : tie.Need-tag-of-requires-2
+tag-of-requires-2 c κs = search needs
 
 join-requires : tie.Need-join-requires
-join-requires c κs = search needs
+join-requires c κs = rw (c .before .tag-of .ensures, c .tag-of2 .ensures) (c .before .before .pre .left, c .before .before .pre .right, c .before .before .pre .tag)
 
-binary-word-requires : tie.Need-binary-word-requires
-binary-word-requires c κs = sym (c .before .before .can-divide .ensures) ∙ c .before .if1 .taken
+answer-requires : tie.Need-answer-requires
+answer-requires c κs = search needs
 
 returns : tie.Need-returns
-unfolding given valueOf tagOf
-returns c = rw (← c .before .before .before .can-divide .ensures, c .before .before .if1 .taken, c .binary-word .ensures, c .before .join .ensures .0)
-
-returns-2 : tie.Need-returns-2
-unfolding given valueOf tagOf
-returns-2 c = rw (← c .before .can-divide .ensures, c .if1 .left)
+returns c = rw (c .answer .ensures, c .before .join .ensures, c .before .before .before .tag-of .ensures, c .before .before .tag-of2 .ensures)
 
 pub both-spec : {M : Type 1} → statement M
 both-spec =
-    tie.close (tie.spec can-divide-requires join-requires binary-word-requires returns returns-2)
+    tie.close (tie.spec tag-of-requires tag-of-requires-2 join-requires answer-requires returns)

@@ -1,17 +1,25 @@
--- A place is five bytes. Assumes nothing.
-use Rattle.rules.specs.Memory.{count, tagOf}
-use Rattle.rules.specs.Recipe.{recipeOf}
-use Rattle.memory.proofs.Places.{read}
+-- A place is packed as it stands. Assumes nothing.
 use borrow.Author.Needs.{needs}
+use Rattle.rules.specs.Memory.{valueOf, tagOf}
 use Rattle.eval.proofs.place.Statement.{statement}
 use Rattle.eval.proofs.place.Tie as tie
 
-place-at-requires : tie.Need-place-at-requires
-place-at-requires c κs = search needs
+mul-answer : tie.Need-mul-answer
+mul-answer c = search needs
+
+element-copy-out-answer : tie.Need-element-copy-out-answer
+element-copy-out-answer c = search needs
+
+tag-at-requires : tie.Need-tag-at-requires
+tag-at-requires c κs = search needs
+
+answer-requires : tie.Need-answer-requires
+answer-requires c κs = search needs
 
 returns : tie.Need-returns
-unfolding tagOf
-returns c = let e = read (count (recipeOf (c .before .before .before .before .args .r .now))) (c .before .before .before .before .args .m .now) (c .before .before .before .before .args .i) (c .before .before .before .before .pre .1) in let q = rw (← e) at (c .place-at .ensures) in (q, rw q (c .before .before .before .before .pre .0 .memory .tags-below (c .before .before .before .before .args .i) (c .before .before .before .before .pre .1)))
+unfolding valueOf tagOf
+returns c = rw (c .answer .ensures, c .before .tag-at .ensures)
 
 pub place-spec : {M : Type 1} → statement M
-place-spec = tie.close (tie.spec place-at-requires returns)
+place-spec =
+    tie.close (tie.spec mul-answer element-copy-out-answer tag-at-requires answer-requires returns)

@@ -18,8 +18,8 @@ refuse-requires c κs = search needs
 enum-told : tie.Need-enum-told
 enum-told c = search needs
 
-run-requires : tie.Need-run-requires
-run-requires c κs = accepted _ _ _ (sym (c .before .before .before .before .check .ensures) ∙ c .before .before .enum-told .given .1)
+run-accepted-requires : tie.Need-run-accepted-requires
+run-accepted-requires c κs = accepted _ _ _ (sym (c .before .before .before .before .check .ensures) ∙ c .before .before .enum-told .given .1)
 
 same-length : tie.Need-same-length
 same-length c = search needs
@@ -34,7 +34,7 @@ same-length-3 : tie.Need-same-length-3
 same-length-3 c = search needs
 
 returns-2 : tie.Need-returns-2
-returns-2 c = rw (judged-ran _ _ _ _ _ (sym (c .before .before .before .before .before .before .before .before .before .check .ensures) ∙ c .before .before .before .before .before .before .before .enum-told .given .1)) (c .before .before .before .before .run .ensures)
+returns-2 c = rw (judged-ran _ _ _ _ _ (sym (c .before .before .before .before .before .before .before .before .before .check .ensures) ∙ c .before .before .before .before .before .before .before .enum-told .given .1)) (c .before .before .before .before .run-accepted .ensures)
 
 pub judge-spec : {M : Type 1} → statement M
 judge-spec =
@@ -44,7 +44,7 @@ judge-spec =
     enum-known-c
     refuse-requires
     enum-told
-    run-requires
+    run-accepted-requires
     same-length
     returns
     same-length-2

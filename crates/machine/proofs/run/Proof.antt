@@ -3,42 +3,35 @@ use borrow.Author.Needs.{needs}
 use native.Mathlib.Omega.{arith}
 use native.Mathlib.Nat.{pos-of-ne-zero}
 use mathlib.Core.Path.{_≡_, refl}
-use Prim.Native.Nat.{_-_}
+use mathlib.Core.List.{List}
+use Prim.Native.Nat.{ℕ, _-_}
 use Rattle.rules.specs.Recipe.{recipeOf}
-use Rattle.machine.proofs.Turns.{Stands, starts, depth-below, next-below, top-fits, done, spent-next, spent-frame, passes-on, stops-begun, push-fits, push-below, pushes-on, full, write-below, writes-on, records-on, no-room, keeps-on, keeps-below, drops-on, stops-taken}
+use Rattle.layout.specs.Places.{Ready}
+use Rattle.machine.proofs.Turns.{Stands, starts, depth-below, next-below, top-fits, done, spent-next, spent-frame, passes-on, stops-begun, push-small, push-below, pushes-on, full, write-below, writes-on, records-on, no-room, keeps-on, keeps-below, drops-on, stops-taken}
 use Rattle.machine.proofs.run.Statement.{statement}
 use Rattle.machine.proofs.run.Tie as tie
 
 abbrev Inv-loop : tie.InvT-loop
-Inv-loop r p m₀ q₀ budget limit x₀ steps₀ records₀ m q x steps records =
-    (limit ≡ recipeOf r .stmts) × Stands r p m₀ q₀ m q (x .stack) budget steps records (x .depth) (x .at) (x .tag)
+Inv-loop t u₀ limit q₀ budget x₀ steps₀ records₀ u q x steps records =
+    (r p : List ℕ) → Ready r p t u₀ → limit ≡ recipeOf r .stmts → Stands r p t u₀ q₀ u q (x .stack) budget steps records (x .depth) (x .at) (x .tag)
 
 abbrev μ-loop : tie.MeasureT-loop
-μ-loop r p m₀ q₀ budget limit x₀ steps₀ records₀ m q x steps records = budget - steps
-
-half-at-requires : tie.Need-half-at-requires Inv-loop μ-loop
-half-at-requires c κs = search needs
+μ-loop t u₀ limit q₀ budget x₀ steps₀ records₀ u q x steps records = budget - steps
 
 loop-holds : tie.Need-loop-holds Inv-loop μ-loop
-loop-holds c = (c .half-at .ensures .0, starts (λ i. c .before .before .before .before .shared-slice-known .given i .fits) (λ i. c .before .before .slice-known .given i .fits) refl (c .half-at .ensures .0) (c .before .before .before .before .before .pre))
+loop-holds c = λ r p a l. starts a (c .before .pre .all-places) refl l
 
 same-length : tie.Need-same-length Inv-loop μ-loop
-same-length c = search needs
-
-same-length-2 : tie.Need-same-length-2 Inv-loop μ-loop
-same-length-2 c = search needs
+same-length c = (c .before .before .loop .inv (c .before .before .before .before .pre .recipe) (c .before .before .before .before .pre .policy) (c .before .before .before .before .pre .ready) (c .before .before .before .before .pre .limited)) .same-room
 
 returns : tie.Need-returns Inv-loop μ-loop
-returns c = done (c .before .before .loop .inv .1) (c .before .if1 .taken) (c .if2 .taken)
+returns c = λ r p a l. let g = c .before .before .loop .inv r p a l in done g (c .before .if1 .taken) (c .if2 .taken)
 
-same-length-3 : tie.Need-same-length-3 Inv-loop μ-loop
-same-length-3 c = search needs
-
-same-length-4 : tie.Need-same-length-4 Inv-loop μ-loop
-same-length-4 c = search needs
+same-length-2 : tie.Need-same-length-2 Inv-loop μ-loop
+same-length-2 c = (c .before .before .before .loop .inv (c .before .before .before .before .before .pre .recipe) (c .before .before .before .before .before .pre .policy) (c .before .before .before .before .before .pre .ready) (c .before .before .before .before .before .pre .limited)) .same-room
 
 returns-2 : tie.Need-returns-2 Inv-loop μ-loop
-returns-2 c = spent-frame (c .before .before .before .loop .inv .1) (c .before .before .if1 .taken) (pos-of-ne-zero (c .before .if2 .left)) (c .if3 .taken)
+returns-2 c = λ r p a l. let g = c .before .before .before .loop .inv r p a l in spent-frame g (c .before .before .if1 .taken) (pos-of-ne-zero (c .before .if2 .left)) (c .if3 .taken)
 
 add-steps : tie.Need-add-steps Inv-loop μ-loop
 add-steps c = search needs
@@ -47,28 +40,28 @@ sub-w : tie.Need-sub-w Inv-loop μ-loop
 sub-w c = search needs
 
 mul-w : tie.Need-mul-w Inv-loop μ-loop
-mul-w c = omega (arith, depth-below (c .before .before .before .loop .inv .1), c .before .before .before .loop .inv .1 .accepted .recipe .counts .few-stmts)
+mul-w c = omega (arith, depth-below (c .before .before .before .loop .inv (c .before .before .before .before .before .pre .recipe) (c .before .before .before .before .before .pre .policy) (c .before .before .before .before .before .pre .ready) (c .before .before .before .before .before .pre .limited)), (c .before .before .before .loop .inv (c .before .before .before .before .before .pre .recipe) (c .before .before .before .before .before .pre .policy) (c .before .before .before .before .before .pre .ready) (c .before .before .before .before .before .pre .limited)) .ready .recipe .counts .few-stmts)
 
 element-copy-out-w : tie.Need-element-copy-out-w Inv-loop μ-loop
-element-copy-out-w c = omega (arith, depth-below (c .before .before .before .loop .inv .1), c .before .before .before .loop .inv .1 .size, c .before .before .before .loop .inv .1 .accepted .recipe .counts .few-stmts)
+element-copy-out-w c = omega (arith, depth-below (c .before .before .before .loop .inv (c .before .before .before .before .before .pre .recipe) (c .before .before .before .before .before .pre .policy) (c .before .before .before .before .before .pre .ready) (c .before .before .before .before .before .pre .limited)), (c .before .before .before .loop .inv (c .before .before .before .before .before .pre .recipe) (c .before .before .before .before .before .pre .policy) (c .before .before .before .before .before .pre .ready) (c .before .before .before .before .before .pre .limited)) .size, (c .before .before .before .loop .inv (c .before .before .before .before .before .pre .recipe) (c .before .before .before .before .before .pre .policy) (c .before .before .before .before .before .pre .ready) (c .before .before .before .before .before .pre .limited)) .ready .recipe .counts .few-stmts)
 
 frame-of-requires : tie.Need-frame-of-requires Inv-loop μ-loop
 frame-of-requires c κs = search needs
 
 take-requires : tie.Need-take-requires Inv-loop μ-loop
-take-requires c κs = (c .before .before .before .before .before .before .loop .inv .1 .accepted, c .before .before .before .before .before .before .loop .inv .1 .standing .branch, top-fits (c .before .before .before .before .before .before .loop .inv .1) (pos-of-ne-zero (c .before .before .before .before .if2 .left)) (c .frame-of .ensures))
+take-requires c κs = record { recipe = c .before .before .before .before .before .before .before .before .pre .recipe; policy = c .before .before .before .before .before .before .before .before .pre .policy; ready = (c .before .before .before .before .before .before .loop .inv (c .before .before .before .before .before .before .before .before .pre .recipe) (c .before .before .before .before .before .before .before .before .pre .policy) (c .before .before .before .before .before .before .before .before .pre .ready) (c .before .before .before .before .before .before .before .before .pre .limited)) .ready; branch = (c .before .before .before .before .before .before .loop .inv (c .before .before .before .before .before .before .before .before .pre .recipe) (c .before .before .before .before .before .before .before .before .pre .policy) (c .before .before .before .before .before .before .before .before .pre .ready) (c .before .before .before .before .before .before .before .before .pre .limited)) .standing .branch; frame = top-fits (c .before .before .before .before .before .before .loop .inv (c .before .before .before .before .before .before .before .before .pre .recipe) (c .before .before .before .before .before .before .before .before .pre .policy) (c .before .before .before .before .before .before .before .before .pre .ready) (c .before .before .before .before .before .before .before .before .pre .limited)) (pos-of-ne-zero (c .before .before .before .before .if2 .left)) (c .frame-of .ensures) }
 
 enum-known-k : tie.Need-enum-known-k Inv-loop μ-loop
 enum-known-k c = search needs
 
 add-x : tie.Need-add-x Inv-loop μ-loop
-add-x c = omega (arith, keeps-below (c .before .before .before .before .before .before .before .before .before .before .loop .inv .1) (c .before .before .before .before .before .before .before .if3 .left) (c .before .before .before .before .before .before .before .before .before .if1 .taken) (pos-of-ne-zero (c .before .before .before .before .before .before .before .before .if2 .left)) (c .before .before .before .before .frame-of .ensures) (c .before .before .before .take .ensures) (c .before .k .given .1), c .before .before .before .before .before .before .before .before .before .before .loop .inv .1 .accepted .recipe .counts .few-stmts)
+add-x c = omega (arith, keeps-below (c .before .before .before .before .before .before .before .before .before .before .loop .inv (c .before .before .before .before .before .before .before .before .before .before .before .before .pre .recipe) (c .before .before .before .before .before .before .before .before .before .before .before .before .pre .policy) (c .before .before .before .before .before .before .before .before .before .before .before .before .pre .ready) (c .before .before .before .before .before .before .before .before .before .before .before .before .pre .limited)) (c .before .before .before .before .before .before .before .if3 .left) (c .before .before .before .before .before .before .before .before .before .if1 .taken) (pos-of-ne-zero (c .before .before .before .before .before .before .before .before .if2 .left)) (c .before .before .before .before .frame-of .ensures) (c .before .before .before .take .ensures (c .before .before .before .before .before .before .before .before .before .before .before .before .pre .recipe) (c .before .before .before .before .before .before .before .before .before .before .before .before .pre .policy) ((c .before .before .before .before .before .before .before .before .before .before .loop .inv (c .before .before .before .before .before .before .before .before .before .before .before .before .pre .recipe) (c .before .before .before .before .before .before .before .before .before .before .before .before .pre .policy) (c .before .before .before .before .before .before .before .before .before .before .before .before .pre .ready) (c .before .before .before .before .before .before .before .before .before .before .before .before .pre .limited)) .ready) ((c .before .before .before .before .before .before .before .before .before .before .loop .inv (c .before .before .before .before .before .before .before .before .before .before .before .before .pre .recipe) (c .before .before .before .before .before .before .before .before .before .before .before .before .pre .policy) (c .before .before .before .before .before .before .before .before .before .before .before .before .pre .ready) (c .before .before .before .before .before .before .before .before .before .before .before .before .pre .limited)) .standing .branch) (top-fits (c .before .before .before .before .before .before .before .before .before .before .loop .inv (c .before .before .before .before .before .before .before .before .before .before .before .before .pre .recipe) (c .before .before .before .before .before .before .before .before .before .before .before .before .pre .policy) (c .before .before .before .before .before .before .before .before .before .before .before .before .pre .ready) (c .before .before .before .before .before .before .before .before .before .before .before .before .pre .limited)) (pos-of-ne-zero (c .before .before .before .before .before .before .before .before .if2 .left)) (c .before .before .before .before .frame-of .ensures))) (c .before .k .given .1), (c .before .before .before .before .before .before .before .before .before .before .loop .inv (c .before .before .before .before .before .before .before .before .before .before .before .before .pre .recipe) (c .before .before .before .before .before .before .before .before .before .before .before .before .pre .policy) (c .before .before .before .before .before .before .before .before .before .before .before .before .pre .ready) (c .before .before .before .before .before .before .before .before .before .before .before .before .pre .limited)) .ready .recipe .counts .few-stmts)
 
 loop-less : tie.Need-loop-less Inv-loop μ-loop
 loop-less c = search needs
 
 loop-again : tie.Need-loop-again Inv-loop μ-loop
-loop-again c = (c .before .before .before .before .before .before .before .before .before .before .loop .inv .0, keeps-on (c .before .before .before .before .before .before .before .before .before .before .loop .inv .1) (c .before .before .before .before .before .before .before .if3 .left) (c .before .before .before .before .before .before .before .before .before .if1 .taken) (pos-of-ne-zero (c .before .before .before .before .before .before .before .before .if2 .left)) (c .before .before .before .before .frame-of .ensures) (c .before .before .before .take .ensures) (c .before .k .given .1))
+loop-again c = λ r p a l. let g = c .before .before .before .before .before .before .before .before .before .before .loop .inv r p a l in keeps-on g (c .before .before .before .before .before .before .before .if3 .left) (c .before .before .before .before .before .before .before .before .before .if1 .taken) (pos-of-ne-zero (c .before .before .before .before .before .before .before .before .if2 .left)) (c .before .before .before .before .frame-of .ensures) (c .before .before .before .take .ensures r p (g .ready) (g .standing .branch) (top-fits g (pos-of-ne-zero (c .before .before .before .before .before .before .before .before .if2 .left)) (c .before .before .before .before .frame-of .ensures))) (c .before .k .given .1)
 
 enum-known-k-2 : tie.Need-enum-known-k-2 Inv-loop μ-loop
 enum-known-k-2 c = search needs
@@ -80,28 +73,22 @@ loop-less-2 : tie.Need-loop-less-2 Inv-loop μ-loop
 loop-less-2 c = search needs
 
 loop-again-2 : tie.Need-loop-again-2 Inv-loop μ-loop
-loop-again-2 c = (c .before .before .before .before .before .before .before .before .before .before .loop .inv .0, drops-on (c .before .before .before .before .before .before .before .before .before .before .loop .inv .1) (c .before .before .before .before .before .before .before .if3 .left) (c .before .before .before .before .before .before .before .before .before .if1 .taken) (pos-of-ne-zero (c .before .before .before .before .before .before .before .before .if2 .left)) (c .before .before .before .before .frame-of .ensures) (c .before .before .before .take .ensures) (c .before .k2 .given .1))
+loop-again-2 c = λ r p a l. let g = c .before .before .before .before .before .before .before .before .before .before .loop .inv r p a l in drops-on g (c .before .before .before .before .before .before .before .if3 .left) (c .before .before .before .before .before .before .before .before .before .if1 .taken) (pos-of-ne-zero (c .before .before .before .before .before .before .before .before .if2 .left)) (c .before .before .before .before .frame-of .ensures) (c .before .before .before .take .ensures r p (g .ready) (g .standing .branch) (top-fits g (pos-of-ne-zero (c .before .before .before .before .before .before .before .before .if2 .left)) (c .before .before .before .before .frame-of .ensures))) (c .before .k2 .given .1)
 
 enum-known-k-3 : tie.Need-enum-known-k-3 Inv-loop μ-loop
 enum-known-k-3 c = search needs
 
-same-length-5 : tie.Need-same-length-5 Inv-loop μ-loop
-same-length-5 c = search needs
-
-same-length-6 : tie.Need-same-length-6 Inv-loop μ-loop
-same-length-6 c = search needs
+same-length-3 : tie.Need-same-length-3 Inv-loop μ-loop
+same-length-3 c = (c .before .before .before .before .before .before .before .before .before .before .loop .inv (c .before .before .before .before .before .before .before .before .before .before .before .before .pre .recipe) (c .before .before .before .before .before .before .before .before .before .before .before .before .pre .policy) (c .before .before .before .before .before .before .before .before .before .before .before .before .pre .ready) (c .before .before .before .before .before .before .before .before .before .before .before .before .pre .limited)) .same-room
 
 returns-3 : tie.Need-returns-3 Inv-loop μ-loop
-returns-3 c = stops-taken (c .before .before .before .before .before .before .before .before .before .before .loop .inv .1) (c .before .before .before .before .before .before .before .if3 .left) (c .before .before .before .before .before .before .before .before .before .if1 .taken) (pos-of-ne-zero (c .before .before .before .before .before .before .before .before .if2 .left)) (c .before .before .before .before .frame-of .ensures) (c .before .before .before .take .ensures) (c .before .k3 .given .1)
+returns-3 c = λ r p a l. let g = c .before .before .before .before .before .before .before .before .before .before .loop .inv r p a l in stops-taken g (c .before .before .before .before .before .before .before .if3 .left) (c .before .before .before .before .before .before .before .before .before .if1 .taken) (pos-of-ne-zero (c .before .before .before .before .before .before .before .before .if2 .left)) (c .before .before .before .before .frame-of .ensures) (c .before .before .before .take .ensures r p (g .ready) (g .standing .branch) (top-fits g (pos-of-ne-zero (c .before .before .before .before .before .before .before .before .if2 .left)) (c .before .before .before .before .frame-of .ensures))) (c .before .k3 .given .1)
 
-same-length-7 : tie.Need-same-length-7 Inv-loop μ-loop
-same-length-7 c = search needs
-
-same-length-8 : tie.Need-same-length-8 Inv-loop μ-loop
-same-length-8 c = search needs
+same-length-4 : tie.Need-same-length-4 Inv-loop μ-loop
+same-length-4 c = (c .before .before .loop .inv (c .before .before .before .before .pre .recipe) (c .before .before .before .before .pre .policy) (c .before .before .before .before .pre .ready) (c .before .before .before .before .pre .limited)) .same-room
 
 returns-4 : tie.Need-returns-4 Inv-loop μ-loop
-returns-4 c = spent-next (c .before .before .loop .inv .1) (pos-of-ne-zero (c .before .if1 .left)) (c .if4 .taken)
+returns-4 c = λ r p a l. let g = c .before .before .loop .inv r p a l in spent-next g (pos-of-ne-zero (c .before .if1 .left)) (c .if4 .taken)
 
 add-steps-2 : tie.Need-add-steps-2 Inv-loop μ-loop
 add-steps-2 c = search needs
@@ -110,7 +97,7 @@ sub-s : tie.Need-sub-s Inv-loop μ-loop
 sub-s c = search needs
 
 begin-requires : tie.Need-begin-requires Inv-loop μ-loop
-begin-requires c κs = (c .before .before .before .loop .inv .1 .accepted, c .before .before .before .loop .inv .1 .standing .branch, next-below (c .before .before .before .loop .inv .1) (pos-of-ne-zero (c .before .before .if1 .left)))
+begin-requires c κs = record { recipe = c .before .before .before .before .before .pre .recipe; policy = c .before .before .before .before .before .pre .policy; ready = (c .before .before .before .loop .inv (c .before .before .before .before .before .pre .recipe) (c .before .before .before .before .before .pre .policy) (c .before .before .before .before .before .pre .ready) (c .before .before .before .before .before .pre .limited)) .ready; there = next-below (c .before .before .before .loop .inv (c .before .before .before .before .before .pre .recipe) (c .before .before .before .before .before .pre .policy) (c .before .before .before .before .before .pre .ready) (c .before .before .before .before .before .pre .limited)) (pos-of-ne-zero (c .before .before .if1 .left)); branch = (c .before .before .before .loop .inv (c .before .before .before .before .before .pre .recipe) (c .before .before .before .before .before .pre .policy) (c .before .before .before .before .before .pre .ready) (c .before .before .before .before .before .pre .limited)) .standing .branch }
 
 enum-told : tie.Need-enum-told Inv-loop μ-loop
 enum-told c = search needs
@@ -119,97 +106,88 @@ loop-less-3 : tie.Need-loop-less-3 Inv-loop μ-loop
 loop-less-3 c = search needs
 
 loop-again-3 : tie.Need-loop-again-3 Inv-loop μ-loop
-loop-again-3 c = (c .before .before .before .before .before .before .loop .inv .0, passes-on (c .before .before .before .before .before .before .loop .inv .1) (c .before .before .before .before .if4 .left) (pos-of-ne-zero (c .before .before .before .before .before .if1 .left)) (c .before .before .begin .ensures) (c .enum-told .given .1))
+loop-again-3 c = λ r p a l. let g = c .before .before .before .before .before .before .loop .inv r p a l in passes-on g (c .before .before .before .before .if4 .left) (pos-of-ne-zero (c .before .before .before .before .before .if1 .left)) (c .before .before .begin .ensures r p (g .ready) (next-below g (pos-of-ne-zero (c .before .before .before .before .before .if1 .left))) (g .standing .branch)) (c .enum-told .given .1)
 
 enum-known-a : tie.Need-enum-known-a Inv-loop μ-loop
 enum-known-a c = search needs
 
-same-length-9 : tie.Need-same-length-9 Inv-loop μ-loop
-same-length-9 c = search needs
-
-same-length-10 : tie.Need-same-length-10 Inv-loop μ-loop
-same-length-10 c = search needs
+same-length-5 : tie.Need-same-length-5 Inv-loop μ-loop
+same-length-5 c = (c .before .before .before .before .before .before .before .before .loop .inv (c .before .before .before .before .before .before .before .before .before .before .pre .recipe) (c .before .before .before .before .before .before .before .before .before .before .pre .policy) (c .before .before .before .before .before .before .before .before .before .before .pre .ready) (c .before .before .before .before .before .before .before .before .before .before .pre .limited)) .same-room
 
 returns-5 : tie.Need-returns-5 Inv-loop μ-loop
-returns-5 c = full (c .before .before .before .before .before .before .before .before .loop .inv .1) (c .before .before .before .before .before .before .if4 .left) (pos-of-ne-zero (c .before .before .before .before .before .before .before .if1 .left)) (c .before .before .before .before .begin .ensures) (c .before .before .a .given .1) (omega arith)
+returns-5 c = λ r p a l. let g = c .before .before .before .before .before .before .before .before .loop .inv r p a l in full g (c .before .before .before .before .before .before .if4 .left) (pos-of-ne-zero (c .before .before .before .before .before .before .before .if1 .left)) (c .before .before .before .before .begin .ensures r p (g .ready) (next-below g (pos-of-ne-zero (c .before .before .before .before .before .before .before .if1 .left))) (g .standing .branch)) (c .before .before .a .given .1) (rw l at (c .if5 .taken))
 
 word-of-requires : tie.Need-word-of-requires Inv-loop μ-loop
-word-of-requires c κs = (c .before .before .before .before .before .before .before .before .loop .inv .1 .accepted .recipe .counts .few-stmts, c .before .before .before .before .before .before .before .before .loop .inv .1 .accepted .policy .few-tags, push-fits (c .before .before .before .before .before .before .before .before .loop .inv .1) (c .before .before .before .before .before .before .if4 .left) (pos-of-ne-zero (c .before .before .before .before .before .before .before .if1 .left)) (c .before .before .before .before .begin .ensures) (c .before .before .a .given .1))
+word-of-requires c κs = push-small (c .before .before .before .before .before .before .before .before .loop .inv (c .before .before .before .before .before .before .before .before .before .before .pre .recipe) (c .before .before .before .before .before .before .before .before .before .before .pre .policy) (c .before .before .before .before .before .before .before .before .before .before .pre .ready) (c .before .before .before .before .before .before .before .before .before .before .pre .limited)) (c .before .before .before .before .before .before .if4 .left) (pos-of-ne-zero (c .before .before .before .before .before .before .before .if1 .left)) (c .before .before .before .before .begin .ensures (c .before .before .before .before .before .before .before .before .before .before .pre .recipe) (c .before .before .before .before .before .before .before .before .before .before .pre .policy) ((c .before .before .before .before .before .before .before .before .loop .inv (c .before .before .before .before .before .before .before .before .before .before .pre .recipe) (c .before .before .before .before .before .before .before .before .before .before .pre .policy) (c .before .before .before .before .before .before .before .before .before .before .pre .ready) (c .before .before .before .before .before .before .before .before .before .before .pre .limited)) .ready) (next-below (c .before .before .before .before .before .before .before .before .loop .inv (c .before .before .before .before .before .before .before .before .before .before .pre .recipe) (c .before .before .before .before .before .before .before .before .before .before .pre .policy) (c .before .before .before .before .before .before .before .before .before .before .pre .ready) (c .before .before .before .before .before .before .before .before .before .before .pre .limited)) (pos-of-ne-zero (c .before .before .before .before .before .before .before .if1 .left))) ((c .before .before .before .before .before .before .before .before .loop .inv (c .before .before .before .before .before .before .before .before .before .before .pre .recipe) (c .before .before .before .before .before .before .before .before .before .before .pre .policy) (c .before .before .before .before .before .before .before .before .before .before .pre .ready) (c .before .before .before .before .before .before .before .before .before .before .pre .limited)) .standing .branch)) (c .before .before .a .given .1)
 
 mul-x : tie.Need-mul-x Inv-loop μ-loop
 mul-x c = search needs
 
 element-write-x : tie.Need-element-write-x Inv-loop μ-loop
-element-write-x c = omega (arith, c .before .if5 .left, c .before .before .before .before .before .before .before .before .before .loop .inv .0, c .before .before .before .before .before .before .before .before .before .loop .inv .1 .size, c .before .before .before .before .before .before .before .before .before .loop .inv .1 .accepted .recipe .counts .few-stmts)
+element-write-x c = omega (arith, c .before .if5 .left, c .before .before .before .before .before .before .before .before .before .before .before .pre .limited, (c .before .before .before .before .before .before .before .before .before .loop .inv (c .before .before .before .before .before .before .before .before .before .before .before .pre .recipe) (c .before .before .before .before .before .before .before .before .before .before .before .pre .policy) (c .before .before .before .before .before .before .before .before .before .before .before .pre .ready) (c .before .before .before .before .before .before .before .before .before .before .before .pre .limited)) .size, (c .before .before .before .before .before .before .before .before .before .loop .inv (c .before .before .before .before .before .before .before .before .before .before .before .pre .recipe) (c .before .before .before .before .before .before .before .before .before .before .before .pre .policy) (c .before .before .before .before .before .before .before .before .before .before .before .pre .ready) (c .before .before .before .before .before .before .before .before .before .before .before .pre .limited)) .ready .recipe .counts .few-stmts)
 
 add-x-2 : tie.Need-add-x-2 Inv-loop μ-loop
-add-x-2 c = omega (arith, c .before .if5 .left, c .before .before .before .before .before .before .before .before .before .loop .inv .0, c .before .before .before .before .before .before .before .before .before .loop .inv .1 .accepted .recipe .counts .few-stmts)
+add-x-2 c = omega (arith, c .before .if5 .left, c .before .before .before .before .before .before .before .before .before .before .before .pre .limited, (c .before .before .before .before .before .before .before .before .before .loop .inv (c .before .before .before .before .before .before .before .before .before .before .before .pre .recipe) (c .before .before .before .before .before .before .before .before .before .before .before .pre .policy) (c .before .before .before .before .before .before .before .before .before .before .before .pre .ready) (c .before .before .before .before .before .before .before .before .before .before .before .pre .limited)) .ready .recipe .counts .few-stmts)
 
 add-x-3 : tie.Need-add-x-3 Inv-loop μ-loop
-add-x-3 c = omega (arith, push-below (c .before .before .before .before .before .before .before .before .before .loop .inv .1) (c .before .before .before .before .before .before .before .if4 .left) (pos-of-ne-zero (c .before .before .before .before .before .before .before .before .if1 .left)) (c .before .before .before .before .before .begin .ensures) (c .before .before .before .a .given .1), c .before .before .before .before .before .before .before .before .before .loop .inv .1 .accepted .recipe .counts .few-stmts)
+add-x-3 c = omega (arith, push-below (c .before .before .before .before .before .before .before .before .before .loop .inv (c .before .before .before .before .before .before .before .before .before .before .before .pre .recipe) (c .before .before .before .before .before .before .before .before .before .before .before .pre .policy) (c .before .before .before .before .before .before .before .before .before .before .before .pre .ready) (c .before .before .before .before .before .before .before .before .before .before .before .pre .limited)) (c .before .before .before .before .before .before .before .if4 .left) (pos-of-ne-zero (c .before .before .before .before .before .before .before .before .if1 .left)) (c .before .before .before .before .before .begin .ensures (c .before .before .before .before .before .before .before .before .before .before .before .pre .recipe) (c .before .before .before .before .before .before .before .before .before .before .before .pre .policy) ((c .before .before .before .before .before .before .before .before .before .loop .inv (c .before .before .before .before .before .before .before .before .before .before .before .pre .recipe) (c .before .before .before .before .before .before .before .before .before .before .before .pre .policy) (c .before .before .before .before .before .before .before .before .before .before .before .pre .ready) (c .before .before .before .before .before .before .before .before .before .before .before .pre .limited)) .ready) (next-below (c .before .before .before .before .before .before .before .before .before .loop .inv (c .before .before .before .before .before .before .before .before .before .before .before .pre .recipe) (c .before .before .before .before .before .before .before .before .before .before .before .pre .policy) (c .before .before .before .before .before .before .before .before .before .before .before .pre .ready) (c .before .before .before .before .before .before .before .before .before .before .before .pre .limited)) (pos-of-ne-zero (c .before .before .before .before .before .before .before .before .if1 .left))) ((c .before .before .before .before .before .before .before .before .before .loop .inv (c .before .before .before .before .before .before .before .before .before .before .before .pre .recipe) (c .before .before .before .before .before .before .before .before .before .before .before .pre .policy) (c .before .before .before .before .before .before .before .before .before .before .before .pre .ready) (c .before .before .before .before .before .before .before .before .before .before .before .pre .limited)) .standing .branch)) (c .before .before .before .a .given .1), (c .before .before .before .before .before .before .before .before .before .loop .inv (c .before .before .before .before .before .before .before .before .before .before .before .pre .recipe) (c .before .before .before .before .before .before .before .before .before .before .before .pre .policy) (c .before .before .before .before .before .before .before .before .before .before .before .pre .ready) (c .before .before .before .before .before .before .before .before .before .before .before .pre .limited)) .ready .recipe .counts .few-stmts)
 
 loop-less-4 : tie.Need-loop-less-4 Inv-loop μ-loop
 loop-less-4 c = search needs
 
 loop-again-4 : tie.Need-loop-again-4 Inv-loop μ-loop
-loop-again-4 c = (c .before .before .before .before .before .before .before .before .before .loop .inv .0, pushes-on (c .before .before .before .before .before .before .before .before .before .loop .inv .1) (c .before .before .before .before .before .before .before .if4 .left) (pos-of-ne-zero (c .before .before .before .before .before .before .before .before .if1 .left)) (c .before .before .before .before .before .begin .ensures) (c .before .before .before .a .given .1) _ (omega (arith, c .before .if5 .left, c .before .before .before .before .before .before .before .before .before .loop .inv .0)) (c .word-of .ensures))
+loop-again-4 c = λ r p a l. let g = c .before .before .before .before .before .before .before .before .before .loop .inv r p a l in pushes-on g (c .before .before .before .before .before .before .before .if4 .left) (pos-of-ne-zero (c .before .before .before .before .before .before .before .before .if1 .left)) (c .before .before .before .before .before .begin .ensures r p (g .ready) (next-below g (pos-of-ne-zero (c .before .before .before .before .before .before .before .before .if1 .left))) (g .standing .branch)) (c .before .before .before .a .given .1) _ (rw l at (c .before .if5 .left)) (c .word-of .ensures)
 
 enum-known-a-2 : tie.Need-enum-known-a-2 Inv-loop μ-loop
 enum-known-a-2 c = search needs
 
 put-place-requires : tie.Need-put-place-requires Inv-loop μ-loop
-put-place-requires c κs = omega (arith, write-below (c .before .before .before .before .before .before .before .before .loop .inv .1) (c .before .before .before .before .before .before .if4 .left) (pos-of-ne-zero (c .before .before .before .before .before .before .before .if1 .left)) (c .before .before .before .before .begin .ensures) (c .before .before .a2 .given .1), c .before .before .before .before .before .before .before .before .loop .inv .1 .accepted .memory .long)
+put-place-requires c κs = omega (arith, write-below (c .before .before .before .before .before .before .before .before .loop .inv (c .before .before .before .before .before .before .before .before .before .before .pre .recipe) (c .before .before .before .before .before .before .before .before .before .before .pre .policy) (c .before .before .before .before .before .before .before .before .before .before .pre .ready) (c .before .before .before .before .before .before .before .before .before .before .pre .limited)) (c .before .before .before .before .before .before .if4 .left) (pos-of-ne-zero (c .before .before .before .before .before .before .before .if1 .left)) (c .before .before .before .before .begin .ensures (c .before .before .before .before .before .before .before .before .before .before .pre .recipe) (c .before .before .before .before .before .before .before .before .before .before .pre .policy) ((c .before .before .before .before .before .before .before .before .loop .inv (c .before .before .before .before .before .before .before .before .before .before .pre .recipe) (c .before .before .before .before .before .before .before .before .before .before .pre .policy) (c .before .before .before .before .before .before .before .before .before .before .pre .ready) (c .before .before .before .before .before .before .before .before .before .before .pre .limited)) .ready) (next-below (c .before .before .before .before .before .before .before .before .loop .inv (c .before .before .before .before .before .before .before .before .before .before .pre .recipe) (c .before .before .before .before .before .before .before .before .before .before .pre .policy) (c .before .before .before .before .before .before .before .before .before .before .pre .ready) (c .before .before .before .before .before .before .before .before .before .before .pre .limited)) (pos-of-ne-zero (c .before .before .before .before .before .before .before .if1 .left))) ((c .before .before .before .before .before .before .before .before .loop .inv (c .before .before .before .before .before .before .before .before .before .before .pre .recipe) (c .before .before .before .before .before .before .before .before .before .before .pre .policy) (c .before .before .before .before .before .before .before .before .before .before .pre .ready) (c .before .before .before .before .before .before .before .before .before .before .pre .limited)) .standing .branch)) (c .before .before .a2 .given .1), (c .before .before .before .before .before .before .before .before .loop .inv (c .before .before .before .before .before .before .before .before .before .before .pre .recipe) (c .before .before .before .before .before .before .before .before .before .before .pre .policy) (c .before .before .before .before .before .before .before .before .before .before .pre .ready) (c .before .before .before .before .before .before .before .before .before .before .pre .limited)) .ready .recipe .counts .few-vars, (c .before .before .before .before .before .before .before .before .loop .inv (c .before .before .before .before .before .before .before .before .before .before .pre .recipe) (c .before .before .before .before .before .before .before .before .before .before .pre .policy) (c .before .before .before .before .before .before .before .before .before .before .pre .ready) (c .before .before .before .before .before .before .before .before .before .before .pre .limited)) .ready .recipe .counts .few-cells)
 
 loop-less-5 : tie.Need-loop-less-5 Inv-loop μ-loop
 loop-less-5 c = search needs
 
 loop-again-5 : tie.Need-loop-again-5 Inv-loop μ-loop
-loop-again-5 c = (c .before .before .before .before .before .before .before .before .before .before .before .loop .inv .0, rw (c .before .before .put-place .ensures .0) (writes-on (c .before .before .before .before .before .before .before .before .before .before .before .loop .inv .1) (c .before .before .before .before .before .before .before .before .before .if4 .left) (pos-of-ne-zero (c .before .before .before .before .before .before .before .before .before .before .if1 .left)) (c .before .before .before .before .before .before .before .begin .ensures) (c .before .before .before .before .before .a2 .given .1) (c .before .before .put-place .ensures .1)))
+loop-again-5 c = λ r p a l. let g = c .before .before .before .before .before .before .before .before .before .loop .inv r p a l in rw (c .put-place .ensures) (writes-on g (c .before .before .before .before .before .before .before .if4 .left) (pos-of-ne-zero (c .before .before .before .before .before .before .before .before .if1 .left)) (c .before .before .before .before .before .begin .ensures r p (g .ready) (next-below g (pos-of-ne-zero (c .before .before .before .before .before .before .before .before .if1 .left))) (g .standing .branch)) (c .before .before .before .a2 .given .1))
 
 enum-known-a-3 : tie.Need-enum-known-a-3 Inv-loop μ-loop
 enum-known-a-3 c = search needs
 
 cast-o : tie.Need-cast-o Inv-loop μ-loop
-cast-o c = search needs
+cast-o c = omega (arith, (c .before .before .before .before .before .before .before .loop .inv (c .before .before .before .before .before .before .before .before .before .pre .recipe) (c .before .before .before .before .before .before .before .before .before .pre .policy) (c .before .before .before .before .before .before .before .before .before .pre .ready) (c .before .before .before .before .before .before .before .before .before .pre .limited)) .few, (c .before .before .before .before .before .before .before .loop .inv (c .before .before .before .before .before .before .before .before .before .pre .recipe) (c .before .before .before .before .before .before .before .before .before .pre .policy) (c .before .before .before .before .before .before .before .before .before .pre .ready) (c .before .before .before .before .before .before .before .before .before .pre .limited)) .within)
 
 mul-o : tie.Need-mul-o Inv-loop μ-loop
-mul-o c = search needs
+mul-o c = omega (arith, (c .before .before .before .before .before .before .before .loop .inv (c .before .before .before .before .before .before .before .before .before .pre .recipe) (c .before .before .before .before .before .before .before .before .before .pre .policy) (c .before .before .before .before .before .before .before .before .before .pre .ready) (c .before .before .before .before .before .before .before .before .before .pre .limited)) .few, (c .before .before .before .before .before .before .before .loop .inv (c .before .before .before .before .before .before .before .before .before .pre .recipe) (c .before .before .before .before .before .before .before .before .before .pre .policy) (c .before .before .before .before .before .before .before .before .before .pre .ready) (c .before .before .before .before .before .before .before .before .before .pre .limited)) .within)
 
 add-if6 : tie.Need-add-if6 Inv-loop μ-loop
-add-if6 c = search needs
+add-if6 c = omega (arith, (c .before .before .before .before .before .before .before .loop .inv (c .before .before .before .before .before .before .before .before .before .pre .recipe) (c .before .before .before .before .before .before .before .before .before .pre .policy) (c .before .before .before .before .before .before .before .before .before .pre .ready) (c .before .before .before .before .before .before .before .before .before .pre .limited)) .few, (c .before .before .before .before .before .before .before .loop .inv (c .before .before .before .before .before .before .before .before .before .pre .recipe) (c .before .before .before .before .before .before .before .before .before .pre .policy) (c .before .before .before .before .before .before .before .before .before .pre .ready) (c .before .before .before .before .before .before .before .before .before .pre .limited)) .within)
 
-same-length-11 : tie.Need-same-length-11 Inv-loop μ-loop
-same-length-11 c = search needs
-
-same-length-12 : tie.Need-same-length-12 Inv-loop μ-loop
-same-length-12 c = search needs
+same-length-6 : tie.Need-same-length-6 Inv-loop μ-loop
+same-length-6 c = (c .before .before .before .before .before .before .before .before .loop .inv (c .before .before .before .before .before .before .before .before .before .before .pre .recipe) (c .before .before .before .before .before .before .before .before .before .before .pre .policy) (c .before .before .before .before .before .before .before .before .before .before .pre .ready) (c .before .before .before .before .before .before .before .before .before .before .pre .limited)) .same-room
 
 returns-6 : tie.Need-returns-6 Inv-loop μ-loop
-returns-6 c = no-room (c .before .before .before .before .before .before .before .before .loop .inv .1) (c .before .before .before .before .before .before .if4 .left) (pos-of-ne-zero (c .before .before .before .before .before .before .before .if1 .left)) (c .before .before .before .before .begin .ensures) (c .before .before .a3 .given .1) (omega (arith, c .before .before .before .before .before .before .before .before .loop .inv .1 .same-room, c .if6 .taken))
+returns-6 c = λ r p a l. let g = c .before .before .before .before .before .before .before .before .loop .inv r p a l in no-room g (c .before .before .before .before .before .before .if4 .left) (pos-of-ne-zero (c .before .before .before .before .before .before .before .if1 .left)) (c .before .before .before .before .begin .ensures r p (g .ready) (next-below g (pos-of-ne-zero (c .before .before .before .before .before .before .before .if1 .left))) (g .standing .branch)) (c .before .before .a3 .given .1) (omega (arith, g .same-room, c .if6 .taken))
 
 put-record-requires : tie.Need-put-record-requires Inv-loop μ-loop
 put-record-requires c κs = search needs
 
 add-records : tie.Need-add-records Inv-loop μ-loop
-add-records c = omega (arith, c .before .before .before .before .before .before .before .before .before .before .before .before .loop .inv .1 .few, c .before .before .before .before .before .before .before .before .before .before .if4 .left)
+add-records c = omega (arith, (c .before .before .before .before .before .before .before .before .before .before .before .before .loop .inv (c .before .before .before .before .before .before .before .before .before .before .before .before .before .before .pre .recipe) (c .before .before .before .before .before .before .before .before .before .before .before .before .before .before .pre .policy) (c .before .before .before .before .before .before .before .before .before .before .before .before .before .before .pre .ready) (c .before .before .before .before .before .before .before .before .before .before .before .before .before .before .pre .limited)) .few, c .before .before .before .before .before .before .before .before .before .before .if4 .left)
 
 loop-less-6 : tie.Need-loop-less-6 Inv-loop μ-loop
 loop-less-6 c = search needs
 
 loop-again-6 : tie.Need-loop-again-6 Inv-loop μ-loop
-loop-again-6 c = (c .before .before .before .before .before .before .before .before .before .before .before .before .loop .inv .0, rw (c .before .before .put-record .ensures) (records-on (c .before .before .before .before .before .before .before .before .before .before .before .before .loop .inv .1) (c .before .before .before .before .before .before .before .before .before .before .if4 .left) (pos-of-ne-zero (c .before .before .before .before .before .before .before .before .before .before .before .if1 .left)) (c .before .before .before .before .before .before .before .before .begin .ensures) (c .before .before .before .before .before .before .a3 .given .1) (omega (arith, c .before .before .before .before .before .before .before .before .before .before .before .before .loop .inv .1 .same-room, c .before .before .before .before .if6 .left))))
+loop-again-6 c = λ r p a l. let g = c .before .before .before .before .before .before .before .before .before .before .before .before .loop .inv r p a l in rw (c .before .before .put-record .ensures) (records-on g (c .before .before .before .before .before .before .before .before .before .before .if4 .left) (pos-of-ne-zero (c .before .before .before .before .before .before .before .before .before .before .before .if1 .left)) (c .before .before .before .before .before .before .before .before .begin .ensures r p (g .ready) (next-below g (pos-of-ne-zero (c .before .before .before .before .before .before .before .before .before .before .before .if1 .left))) (g .standing .branch)) (c .before .before .before .before .before .before .a3 .given .1) (omega (arith, g .same-room, c .before .before .before .before .if6 .left)))
 
 enum-known-a-4 : tie.Need-enum-known-a-4 Inv-loop μ-loop
 enum-known-a-4 c = search needs
 
-same-length-13 : tie.Need-same-length-13 Inv-loop μ-loop
-same-length-13 c = search needs
-
-same-length-14 : tie.Need-same-length-14 Inv-loop μ-loop
-same-length-14 c = search needs
+same-length-7 : tie.Need-same-length-7 Inv-loop μ-loop
+same-length-7 c = (c .before .before .before .before .before .before .before .loop .inv (c .before .before .before .before .before .before .before .before .before .pre .recipe) (c .before .before .before .before .before .before .before .before .before .pre .policy) (c .before .before .before .before .before .before .before .before .before .pre .ready) (c .before .before .before .before .before .before .before .before .before .pre .limited)) .same-room
 
 returns-7 : tie.Need-returns-7 Inv-loop μ-loop
-returns-7 c = stops-begun (c .before .before .before .before .before .before .before .loop .inv .1) (c .before .before .before .before .before .if4 .left) (pos-of-ne-zero (c .before .before .before .before .before .before .if1 .left)) (c .before .before .before .begin .ensures) (c .before .a4 .given .1)
+returns-7 c = λ r p a l. let g = c .before .before .before .before .before .before .before .loop .inv r p a l in stops-begun g (c .before .before .before .before .before .if4 .left) (pos-of-ne-zero (c .before .before .before .before .before .before .if1 .left)) (c .before .before .before .begin .ensures r p (g .ready) (next-below g (pos-of-ne-zero (c .before .before .before .before .before .before .if1 .left))) (g .standing .branch)) (c .before .a4 .given .1)
 
 pub run-spec : {M : Type 1} → statement M
 run-spec =
@@ -217,13 +195,10 @@ run-spec =
     (tie.spec
     Inv-loop
     μ-loop
-    half-at-requires
     loop-holds
     same-length
-    same-length-2
     returns
-    same-length-3
-    same-length-4
+    same-length-2
     returns-2
     add-steps
     sub-w
@@ -240,11 +215,9 @@ run-spec =
     loop-less-2
     loop-again-2
     enum-known-k-3
-    same-length-5
-    same-length-6
+    same-length-3
     returns-3
-    same-length-7
-    same-length-8
+    same-length-4
     returns-4
     add-steps-2
     sub-s
@@ -253,8 +226,7 @@ run-spec =
     loop-less-3
     loop-again-3
     enum-known-a
-    same-length-9
-    same-length-10
+    same-length-5
     returns-5
     word-of-requires
     mul-x
@@ -271,14 +243,12 @@ run-spec =
     cast-o
     mul-o
     add-if6
-    same-length-11
-    same-length-12
+    same-length-6
     returns-6
     put-record-requires
     add-records
     loop-less-6
     loop-again-6
     enum-known-a-4
-    same-length-13
-    same-length-14
+    same-length-7
     returns-7)

@@ -10,10 +10,10 @@ enum-known-f : tie.Need-enum-known-f
 enum-known-f c = search needs
 
 cast-result : tie.Need-cast-result
-cast-result c = omega (arith, rw (c .before .f .given .1) at (c .before .before .before .pre .2), c .before .before .before .pre .0)
+cast-result c = omega (arith, rw (c .before .f .given .1) at (c .before .before .before .pre))
 
 mul-result : tie.Need-mul-result
-mul-result c = omega (arith, rw (c .before .f .given .1) at (c .before .before .before .pre .2), c .before .before .before .pre .0)
+mul-result c = omega (arith, rw (c .before .f .given .1) at (c .before .before .before .pre))
 
 enum-known-f-2 : tie.Need-enum-known-f-2
 enum-known-f-2 c = search needs
@@ -40,22 +40,22 @@ add-result-2 : tie.Need-add-result-2
 add-result-2 c = search needs
 
 cast-result-4 : tie.Need-cast-result-4
-cast-result-4 c = let h = rw (c .before .f3 .given .1) at (c .before .before .before .pre .2) in omega (arith, h .0, h .1, c .before .before .before .pre .0, c .before .before .before .pre .1)
+cast-result-4 c = let h = rw (c .before .f3 .given .1) at (c .before .before .before .pre) in omega (arith, h .0, h .1)
 
 mul-result-4 : tie.Need-mul-result-4
-mul-result-4 c = let h = rw (c .before .f3 .given .1) at (c .before .before .before .pre .2) in omega (arith, h .0, h .1, c .before .before .before .pre .0, c .before .before .before .pre .1)
+mul-result-4 c = let h = rw (c .before .f3 .given .1) at (c .before .before .before .pre) in omega (arith, h .0, h .1)
 
 add-result-3 : tie.Need-add-result-3
-add-result-3 c = let h = rw (c .before .f3 .given .1) at (c .before .before .before .pre .2) in omega (arith, h .0, h .1, c .before .before .before .pre .0, c .before .before .before .pre .1)
+add-result-3 c = let h = rw (c .before .f3 .given .1) at (c .before .before .before .pre) in omega (arith, h .0, h .1)
 
 returns : tie.Need-returns
 returns c = next-word _ ∙ sym (c .before .f .given .1)
 
 returns-2 : tie.Need-returns-2
-returns-2 c = let h = rw (c .before .f2 .given .1) at (c .before .before .before .pre .2) in join-word _ (omega (arith, h, c .before .before .before .pre .1)) ∙ sym (c .before .f2 .given .1)
+returns-2 c = join-word _ (rw (c .before .f2 .given .1) at (c .before .before .before .pre)) ∙ sym (c .before .f2 .given .1)
 
 returns-3 : tie.Need-returns-3
-returns-3 c = let h = rw (c .before .f3 .given .1) at (c .before .before .before .pre .2) in loop-word _ _ (omega (arith, h .1, c .before .before .before .pre .1)) ∙ sym (c .before .f3 .given .1)
+returns-3 c = let h = rw (c .before .f3 .given .1) at (c .before .before .before .pre) in loop-word _ _ (h .1) ∙ sym (c .before .f3 .given .1)
 
 pub word-of-spec : {M : Type 1} → statement M
 word-of-spec =

@@ -1,8 +1,6 @@
 -- The test picks the branch, and its tag joins the branch tag. Assumes nothing.
-use mathlib.Core.Path.{sym, _∙_}
 use Rattle.rules.specs.Memory.{valueOf, tagOf}
-use Rattle.rules.specs.Steps.{allow, test}
-use Rattle.steps.proofs.Asked.{tag-found, test-true, test-false}
+use Rattle.steps.proofs.Asked.{value-found, value-lost, tag-found, byte-low, join-given, join-is, same-below, test-true, test-false}
 use borrow.Author.Needs.{needs}
 use Rattle.steps.proofs.choose.Statement.{statement}
 use Rattle.steps.proofs.choose.Tie as tie
@@ -10,27 +8,68 @@ use Rattle.steps.proofs.choose.Tie as tie
 value-requires : tie.Need-value-requires
 value-requires c κs = search needs
 
-enum-known-o : tie.Need-enum-known-o
-enum-known-o c = search needs
-
-join-requires : tie.Need-join-requires
-join-requires c κs = (c .before .before .before .before .before .before .before .pre .0 .policy, c .before .before .before .before .before .before .before .pre .1, tag-found (c .before .before .before .before .before .before .before .pre .0) _ (c .before .before .before .value .ensures) (c .before .o .given .1))
+stop-of-requires : tie.Need-stop-of-requires
+stop-of-requires c κs = search needs
 
 returns : tie.Need-returns
-unfolding valueOf tagOf
-returns c = rw (← c .before .before .before .before .before .before .value .ensures, c .before .before .before .before .o .given .1, test-false (c .if1 .taken), c .before .before .join .ensures .0)
+returns c r p a b n =
+    let value = c .before .before .value in
+    let if1 = c .before .if1 in
+    let stop-of = c .stop-of in
+    rw (value-lost a n (value .ensures) (if1 .taken), stop-of .ensures)
 
-enum-known-o-2 : tie.Need-enum-known-o-2
-enum-known-o-2 c = search needs
+tag-of-requires : tie.Need-tag-of-requires
+tag-of-requires c κs =
+    let pre = c .before .before .pre in
+    let value = c .before .value in
+    let if1 = c .if1 in
+    byte-low (pre .ready) (tag-found (pre .ready) (pre .named) (value .ensures) (if1 .left))
+
+join-requires : tie.Need-join-requires
+join-requires c κs =
+    let tag-of = c .tag-of in
+    let pre = c .before .before .before .pre in
+    let value = c .before .before .value in
+    let if1 = c .before .if1 in
+    let low = same-below (tag-of .ensures) (tag-found (pre .ready) (pre .named) (value .ensures) (if1 .left)) in
+    join-given (pre .ready) (pre .branch) low
+
+word-of-requires : tie.Need-word-of-requires
+word-of-requires c κs = search needs
 
 returns-2 : tie.Need-returns-2
 unfolding valueOf tagOf
-returns-2 c = rw (← c .before .before .before .before .before .before .value .ensures, c .before .before .before .before .o .given .1, test-true (c .if1 .left), c .before .before .join .ensures .0)
+returns-2 c r p a b n =
+    let tag-of = c .before .before .before .tag-of in
+    let value = c .before .before .before .before .before .value in
+    let if1 = c .before .before .before .before .if1 in
+    let word-of = c .before .word-of in
+    let if2 = c .if2 in
+    let join = c .before .before .join in
+    let low = same-below (tag-of .ensures) (tag-found a n (value .ensures) (if1 .left)) in
+    rw (value-found a n (value .ensures) (if1 .left), test-false (word-of .ensures) (if2 .taken), join-is a b low (join .ensures), tag-of .ensures)
 
 returns-3 : tie.Need-returns-3
-returns-3 c = rw (← c .before .before .before .value .ensures, c .before .o2 .given .1)
+unfolding valueOf tagOf
+returns-3 c r p a b n =
+    let tag-of = c .before .before .before .tag-of in
+    let value = c .before .before .before .before .before .value in
+    let if1 = c .before .before .before .before .if1 in
+    let word-of = c .before .word-of in
+    let if2 = c .if2 in
+    let join = c .before .before .join in
+    let low = same-below (tag-of .ensures) (tag-found a n (value .ensures) (if1 .left)) in
+    rw (value-found a n (value .ensures) (if1 .left), test-true (word-of .ensures) (if2 .left), join-is a b low (join .ensures), tag-of .ensures)
 
 pub choose-spec : {M : Type 1} → statement M
 choose-spec =
     tie.close
-    (tie.spec value-requires enum-known-o join-requires returns enum-known-o-2 returns-2 returns-3)
+    (tie.spec
+    value-requires
+    stop-of-requires
+    returns
+    tag-of-requires
+    join-requires
+    word-of-requires
+    returns-2
+    returns-3)

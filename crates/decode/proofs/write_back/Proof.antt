@@ -1,0 +1,89 @@
+-- The loop's invariant: the memory's places below `i` are those in the array, and all of it are bytes. Assumes nothing.
+use Rattle.layout.specs.Places.{placeIn}
+use Rattle.rules.specs.Bytes.{Bytes}
+use Rattle.memory.proofs.Places.{length-placed}
+use Prim.Native.Nat.{_*_, _-_, _≤_}
+use native.Mathlib.Omega.{arith}
+use mathlib.Core.Path.{_≡_, refl, _∙_}
+use lib.ListN.{length}
+use borrow.Author.Count.{below-none}
+use Rattle.decode.specs.Filled.{PlacesAs}
+use Rattle.decode.proofs.Places.{back-more, back-done}
+use borrow.Author.Needs.{needs}
+use Rattle.decode.proofs.write_back.Statement.{statement}
+use Rattle.decode.proofs.write_back.Tie as tie
+
+abbrev Inv-loop : tie.InvT-loop
+Inv-loop u count m₀ i₀ m i = (i ≤ count) × (length m ≡ length m₀) × Bytes m × PlacesAs m i u
+
+abbrev μ-loop : tie.MeasureT-loop
+μ-loop u count m₀ i₀ m i = count - i
+
+loop-holds : tie.Need-loop-holds Inv-loop μ-loop
+loop-holds c = (search needs, refl, (λ i. c .slice-known .given i .fits), below-none _)
+
+mul-w : tie.Need-mul-w Inv-loop μ-loop
+mul-w c = search needs
+
+element-copy-out-w : tie.Need-element-copy-out-w Inv-loop μ-loop
+element-copy-out-w c = search needs
+
+add-g : tie.Need-add-g Inv-loop μ-loop
+add-g c = search needs
+
+mul-g : tie.Need-mul-g Inv-loop μ-loop
+mul-g c = search needs
+
+element-copy-out-g : tie.Need-element-copy-out-g Inv-loop μ-loop
+element-copy-out-g c = search needs
+
+cast-t18 : tie.Need-cast-t18 Inv-loop μ-loop
+cast-t18 c = omega (arith, c .before .before .before .before .before .before .pre .2 (c .before .before .before .before .loop .i) (omega arith))
+
+put-place-requires : tie.Need-put-place-requires Inv-loop μ-loop
+put-place-requires c κs = search needs
+
+add-i : tie.Need-add-i Inv-loop μ-loop
+add-i c = search needs
+
+loop-less : tie.Need-loop-less Inv-loop μ-loop
+loop-less c = search needs
+
+loop-again : tie.Need-loop-again Inv-loop μ-loop
+loop-again c =
+    let u = c .before .before .before .before .before .before .before .before .before .args .u .now in
+    let i = c .before .before .before .before .before .before .before .loop .i in
+    let inv = c .before .before .before .before .before .before .before .loop .inv in
+    let put = c .before .before .put-place .ensures in
+    let long : 5 * c .before .before .before .before .before .before .before .before .before .args .count ≤ length (c .before .before .before .before .before .before .before .loop .m) = omega (arith, inv .1, c .before .before .before .before .before .before .before .before .before .pre .1) in (
+      omega arith,
+      rw (put .0) (length-placed _ _ _ ∙ inv .1),
+      (λ j. c .slice-known2 .given j .fits),
+      rw (put .0) (back-more _ _ long i (omega arith) (placeIn u i) (put .1) u refl (inv .3)),
+    )
+
+same-length : tie.Need-same-length Inv-loop μ-loop
+same-length c = search needs
+
+returns : tie.Need-returns Inv-loop μ-loop
+returns c = back-done _ _ _ (omega (arith, c .before .loop .inv .1, c .before .before .before .pre .1)) (c .before .loop .inv .2) (λ j h. c .before .loop .inv .3 j (omega arith))
+
+pub write-back-spec : {M : Type 1} → statement M
+write-back-spec =
+    tie.close
+    (tie.spec
+    Inv-loop
+    μ-loop
+    loop-holds
+    mul-w
+    element-copy-out-w
+    add-g
+    mul-g
+    element-copy-out-g
+    cast-t18
+    put-place-requires
+    add-i
+    loop-less
+    loop-again
+    same-length
+    returns)

@@ -1,0 +1,162 @@
+-- Each number is the word operation of its operator; a divisor that passed the test is not zero. Assumes nothing.
+use Prim.Native.Nat.{_≤_}
+use native.Mathlib.Omega.{arith}
+use mathlib.Core.Path.{sym, _∙_, _≡_}
+use borrow.Author.Tests.{ne-eqb}
+use borrow.Author.Needs.{needs}
+use Rattle.rules.specs.Memory.{valueOf, tagOf}
+use Rattle.rules.specs.Operators.{binary, divides}
+use Rattle.rules.specs.Ends.{stopNumber}
+use Rattle.rules.specs.Steps.{given}
+use Rattle.layout.specs.Tables.{binaryFrom}
+use Rattle.eval.specs.Packed.{wordIn}
+use Rattle.eval.proofs.binary.Statement.{statement}
+use Rattle.eval.proofs.binary.Tie as tie
+
+word-of-requires : tie.Need-word-of-requires
+word-of-requires c κs = search needs
+
+word-of-requires-2 : tie.Need-word-of-requires-2
+word-of-requires-2 c κs = search needs
+
+add-requires : tie.Need-add-requires
+add-requires c κs = search needs
+
+both-requires : tie.Need-both-requires
+both-requires c κs = search needs
+
+sub-requires : tie.Need-sub-requires
+sub-requires c κs = search needs
+
+both-requires-2 : tie.Need-both-requires-2
+both-requires-2 c κs = search needs
+
+mul-requires : tie.Need-mul-requires
+mul-requires c κs = search needs
+
+both-requires-3 : tie.Need-both-requires-3
+both-requires-3 c κs = search needs
+
+add-result : tie.Need-add-result
+add-result c = search needs
+
+returns : tie.Need-returns
+unfolding given valueOf tagOf binary divides binaryFrom stopNumber
+returns c = let n : wordIn (c .before .before .before .before .args .y) ≡ 0 = sym (c .before .before .word-of2 .ensures) ∙ c .if1 .taken in rw (c .before .match .keys4, n)
+
+div-requires : tie.Need-div-requires
+div-requires c κs = search needs
+
+both-requires-4 : tie.Need-both-requires-4
+both-requires-4 c κs = search needs
+
+add-result-2 : tie.Need-add-result-2
+add-result-2 c = search needs
+
+returns-2 : tie.Need-returns-2
+unfolding given valueOf tagOf binary divides binaryFrom stopNumber
+returns-2 c = let n : wordIn (c .before .before .before .before .args .y) ≡ 0 = sym (c .before .before .word-of2 .ensures) ∙ c .if2 .taken in rw (c .before .match .keys5, n)
+
+rem-requires : tie.Need-rem-requires
+rem-requires c κs = search needs
+
+both-requires-5 : tie.Need-both-requires-5
+both-requires-5 c κs = search needs
+
+is-less-requires : tie.Need-is-less-requires
+is-less-requires c κs = search needs
+
+both-requires-6 : tie.Need-both-requires-6
+both-requires-6 c κs = search needs
+
+is-less-equal-requires : tie.Need-is-less-equal-requires
+is-less-equal-requires c κs = search needs
+
+both-requires-7 : tie.Need-both-requires-7
+both-requires-7 c κs = search needs
+
+is-equal-requires : tie.Need-is-equal-requires
+is-equal-requires c κs = search needs
+
+both-requires-8 : tie.Need-both-requires-8
+both-requires-8 c κs = search needs
+
+is-not-equal-requires : tie.Need-is-not-equal-requires
+is-not-equal-requires c κs = search needs
+
+both-requires-9 : tie.Need-both-requires-9
+both-requires-9 c κs = search needs
+
+returns-3 : tie.Need-returns-3
+unfolding given valueOf tagOf binary divides binaryFrom stopNumber
+returns-3 c = rw (c .before .before .match .keys1, c .both .ensures, c .before .add .ensures, c .before .before .before .before .word-of .ensures, c .before .before .before .word-of2 .ensures)
+
+returns-4 : tie.Need-returns-4
+unfolding given valueOf tagOf binary divides binaryFrom stopNumber
+returns-4 c = rw (c .before .before .match .keys2, c .both2 .ensures, c .before .sub .ensures, c .before .before .before .before .word-of .ensures, c .before .before .before .word-of2 .ensures)
+
+returns-5 : tie.Need-returns-5
+unfolding given valueOf tagOf binary divides binaryFrom stopNumber
+returns-5 c = rw (c .before .before .match .keys3, c .both3 .ensures, c .before .mul .ensures, c .before .before .before .before .word-of .ensures, c .before .before .before .word-of2 .ensures)
+
+returns-6 : tie.Need-returns-6
+unfolding given valueOf tagOf binary divides binaryFrom stopNumber
+returns-6 c = rw (c .before .before .before .match .keys4, ne-eqb (wordIn (c .before .before .before .before .before .before .args .y)) 0 (λ e. c .before .before .if1 .left (c .before .before .before .before .word-of2 .ensures ∙ e)), c .both4 .ensures, c .before .div .ensures, c .before .before .before .before .before .word-of .ensures, c .before .before .before .before .word-of2 .ensures)
+
+returns-7 : tie.Need-returns-7
+unfolding given valueOf tagOf binary divides binaryFrom stopNumber
+returns-7 c = rw (c .before .before .before .match .keys5, ne-eqb (wordIn (c .before .before .before .before .before .before .args .y)) 0 (λ e. c .before .before .if2 .left (c .before .before .before .before .word-of2 .ensures ∙ e)), c .both5 .ensures, c .before .rem .ensures, c .before .before .before .before .before .word-of .ensures, c .before .before .before .before .word-of2 .ensures)
+
+returns-8 : tie.Need-returns-8
+unfolding given valueOf tagOf binary divides binaryFrom stopNumber
+returns-8 c = rw (c .before .before .match .keys6, c .both6 .ensures, c .before .is-less .ensures, c .before .before .before .before .word-of .ensures, c .before .before .before .word-of2 .ensures)
+
+returns-9 : tie.Need-returns-9
+unfolding given valueOf tagOf binary divides binaryFrom stopNumber
+returns-9 c = rw (c .before .before .match .keys7, c .both7 .ensures, c .before .is-less-equal .ensures, c .before .before .before .before .word-of .ensures, c .before .before .before .word-of2 .ensures)
+
+returns-10 : tie.Need-returns-10
+unfolding given valueOf tagOf binary divides binaryFrom stopNumber
+returns-10 c = rw (c .before .before .match .keys8, c .both8 .ensures, c .before .is-equal .ensures, c .before .before .before .before .word-of .ensures, c .before .before .before .word-of2 .ensures)
+
+returns-11 : tie.Need-returns-11
+unfolding given valueOf tagOf binary divides binaryFrom stopNumber
+returns-11 c = let k = c .before .before .before .before .before .args .k in let a : 9 ≤ k = omega (arith, c .before .before .before .before .before .pre .0, c .before .before .match .rest .0 .0 .0 .0 .1, c .before .before .match .rest .0 .0 .0 .0 .0 .1, c .before .before .match .rest .0 .0 .0 .0 .0 .0 .1, c .before .before .match .rest .0 .0 .0 .0 .0 .0 .0 .1) in let e : k ≡ 13 = omega (arith, a, c .before .before .before .before .before .pre .1, c .before .before .match .rest .1, c .before .before .match .rest .0 .1, c .before .before .match .rest .0 .0 .1, c .before .before .match .rest .0 .0 .0 .1) in rw (e, c .both9 .ensures, c .before .is-not-equal .ensures, c .before .before .before .before .word-of .ensures, c .before .before .before .word-of2 .ensures)
+
+pub binary-spec : {M : Type 1} → statement M
+binary-spec =
+    tie.close
+    (tie.spec
+    word-of-requires
+    word-of-requires-2
+    add-requires
+    both-requires
+    sub-requires
+    both-requires-2
+    mul-requires
+    both-requires-3
+    add-result
+    returns
+    div-requires
+    both-requires-4
+    add-result-2
+    returns-2
+    rem-requires
+    both-requires-5
+    is-less-requires
+    both-requires-6
+    is-less-equal-requires
+    both-requires-7
+    is-equal-requires
+    both-requires-8
+    is-not-equal-requires
+    both-requires-9
+    returns-3
+    returns-4
+    returns-5
+    returns-6
+    returns-7
+    returns-8
+    returns-9
+    returns-10
+    returns-11)

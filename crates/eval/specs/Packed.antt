@@ -1,0 +1,46 @@
+-- The operators on packed answers x and y: value + 2^32 tag each. Assumes nothing.
+use Prim.Native.Nat.{ℕ, _+_, _/_, _%_, _<_, _≤_}
+use mathlib.Core.List.{List}
+use lib.Dec.{ltb}
+use lib.ListN.{getD}
+use Rattle.rules.specs.declared.Stop.the-variants.{Index, Divisor}
+use Rattle.rules.specs.declared.Valued.the-variants.{Value}
+use Rattle.rules.specs.Operators.{unary, binary, divides}
+use Rattle.rules.specs.Memory.{_#_}
+use Rattle.rules.specs.Steps.{given}
+use Rattle.layout.specs.Tables.{unaryFrom, binaryFrom, joinIn}
+use Rattle.layout.specs.Answers.{answerOf}
+
+-- the tag and the word of a packed answer
+abbrev pub tagIn : ℕ → ℕ
+tagIn x = x / 4294967296
+
+abbrev pub wordIn : ℕ → ℕ
+wordIn x = x % 4294967296
+
+-- two tags whose join is a tag
+pub record Joined (t : List ℕ) (a b : ℕ) : Type 0 where
+  pub left : a < 16
+  pub right : b < 16
+  pub tag : joinIn t a b < 256
+
+abbrev pub unaryIn : (k x : ℕ) → ℕ
+unaryIn k x = answerOf (Value (unary (unaryFrom k) (wordIn x) # tagIn x))
+
+abbrev pub binaryIn : (t : List ℕ) (k x y : ℕ) → ℕ
+binaryIn t k x y =
+    answerOf (given (divides (binaryFrom k) (wordIn y)) Divisor (Value (binary (binaryFrom k) (wordIn x) (wordIn y) # joinIn t (tagIn x) (tagIn y))))
+
+-- the cell at the index in x
+abbrev pub cellPlace : (t : List ℕ) (x : ℕ) → ℕ
+cellPlace t x = getD t 8464 0 + wordIn x
+
+abbrev pub cellIn : (t u : List ℕ) (x : ℕ) → ℕ
+cellIn t u x =
+    answerOf (given (ltb (wordIn x) (getD t 8465 0)) Index (Value (getD u (cellPlace t x) 0 # joinIn t (getD u (2112 + cellPlace t x) 0) (tagIn x))))
+
+-- an index below the number of cells names a place
+pub record CellAsked (t u : List ℕ) (x : ℕ) : Type 0 where
+  pub few : getD t 8465 0 ≤ 1024
+  pub inside : wordIn x < getD t 8465 0 → cellPlace t x < 2112
+  pub tags : wordIn x < getD t 8465 0 → Joined t (getD u (2112 + cellPlace t x) 0) (tagIn x)

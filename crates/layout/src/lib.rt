@@ -1,0 +1,1 @@
+// How the run holds accepted tables: definitions and laws only. No code.

@@ -1,0 +1,56 @@
+-- Accepted tables are decoded, run and written back. Assumes nothing.
+use native.Mathlib.Omega.{arith}
+use mathlib.Core.Path.{refl}
+use Rattle.machine.proofs.Loaded.{loaded, left-back}
+use borrow.Author.Needs.{needs}
+use Rattle.machine.proofs.run_accepted.Statement.{statement}
+use Rattle.machine.proofs.run_accepted.Tie as tie
+
+decode-requires : tie.Need-decode-requires
+decode-requires c κs = (c .before .before .before .before .before .pre .recipe, c .before .before .before .before .before .pre .policy)
+
+load-requires : tie.Need-load-requires
+load-requires c κs = (c .before .before .before .before .before .before .before .before .pre .recipe, c .before .before .before .before .before .before .before .before .pre .memory .long)
+
+half-at-requires : tie.Need-half-at-requires
+half-at-requires c κs = omega (arith, c .before .before .before .before .before .before .before .before .before .before .before .pre .recipe .long)
+
+run-requires : tie.Need-run-requires
+run-requires c κs = record { recipe = _; policy = _; ready = (loaded _ (c .before .before .before .before .before .before .before .before .before .before .before .before .before .pre) (c .before .before .before .before .load .ensures .0) (λ i. c .before .before .before .before .before .before .before .before .before .before .before .before .shared-slice-known .given i .fits) (λ i. c .before .before .before .before .before .before .before .before .before .before .slice-known .given i .fits) (c .before .before .before .before .before .before .before .decode .ensures) (c .before .before .before .before .load .ensures .1)); limited = c .before .half-at .ensures .0; all-places = c .before .before .before .before .load .ensures .2 }
+
+half-at-requires-2 : tie.Need-half-at-requires-2
+half-at-requires-2 c κs = omega (arith, c .before .before .before .before .before .before .before .before .before .before .before .before .before .before .before .before .before .pre .recipe .long)
+
+half-at-requires-3 : tie.Need-half-at-requires-3
+half-at-requires-3 c κs = omega (arith, c .before .before .before .before .before .before .before .before .before .before .before .before .before .before .before .before .before .before .pre .recipe .long)
+
+add-write-back : tie.Need-add-write-back
+add-write-back c = search needs
+
+write-back-requires : tie.Need-write-back-requires
+write-back-requires c κs = (omega (arith, c .before .before .half-at2 .ensures .0, c .before .half-at3 .ensures .0, c .before .before .before .before .before .before .before .before .before .before .before .before .before .before .before .before .before .before .before .before .pre .recipe .counts .few-vars, c .before .before .before .before .before .before .before .before .before .before .before .before .before .before .before .before .before .before .before .before .pre .recipe .counts .few-cells), omega (arith, c .before .before .half-at2 .ensures .0, c .before .half-at3 .ensures .0, c .before .before .before .before .before .before .before .before .before .before .before .before .before .before .before .before .before .before .before .before .pre .memory .long), λ i h. omega (arith, (c .before .before .before .before .before .before .run .ensures _ _ (loaded _ (c .before .before .before .before .before .before .before .before .before .before .before .before .before .before .before .before .before .before .before .before .pre) (c .before .before .before .before .before .before .before .before .before .before .before .load .ensures .0) (λ i. c .before .before .before .before .before .before .before .before .before .before .before .before .before .before .before .before .before .before .before .shared-slice-known .given i .fits) (λ i. c .before .before .before .before .before .before .before .before .before .before .before .before .before .before .before .before .before .slice-known .given i .fits) (c .before .before .before .before .before .before .before .before .before .before .before .before .before .before .decode .ensures) (c .before .before .before .before .before .before .before .before .before .before .before .load .ensures .1)) (c .before .before .before .before .before .before .before .before .half-at .ensures .0)) .ready .tags-below i (omega (arith, h, c .before .before .half-at2 .ensures .0, c .before .half-at3 .ensures .0)), c .before .before .before .before .before .before .before .before .before .before .before .before .before .before .before .before .before .before .before .before .pre .policy .few-tags))
+
+same-length : tie.Need-same-length
+same-length c = search needs
+
+same-length-2 : tie.Need-same-length-2
+same-length-2 c = search needs
+
+returns : tie.Need-returns
+returns c = left-back _ (c .before .before .before .before .before .before .before .before .before .before .before .before .before .before .before .before .before .before .before .before .before .before .before .pre) (c .before .before .before .before .before .before .before .before .before .before .before .before .before .before .load .ensures .0) (c .before .before .before .before .before .before .before .before .before .run .ensures _ _ (loaded _ (c .before .before .before .before .before .before .before .before .before .before .before .before .before .before .before .before .before .before .before .before .before .before .before .pre) (c .before .before .before .before .before .before .before .before .before .before .before .before .before .before .load .ensures .0) (λ i. c .before .before .before .before .before .before .before .before .before .before .before .before .before .before .before .before .before .before .before .before .before .before .shared-slice-known .given i .fits) (λ i. c .before .before .before .before .before .before .before .before .before .before .before .before .before .before .before .before .before .before .before .before .slice-known .given i .fits) (c .before .before .before .before .before .before .before .before .before .before .before .before .before .before .before .before .before .decode .ensures) (c .before .before .before .before .before .before .before .before .before .before .before .before .before .before .load .ensures .1)) (c .before .before .before .before .before .before .before .before .before .before .before .half-at .ensures .0)) (omega (arith, c .before .before .before .before .before .half-at2 .ensures .0, c .before .before .before .before .half-at3 .ensures .0)) (c .before .before .write-back .ensures)
+
+pub run-accepted-spec : {M : Type 1} → statement M
+run-accepted-spec =
+    tie.close
+    (tie.spec
+    decode-requires
+    load-requires
+    half-at-requires
+    run-requires
+    half-at-requires-2
+    half-at-requires-3
+    add-write-back
+    write-back-requires
+    same-length
+    same-length-2
+    returns)
