@@ -4,7 +4,7 @@ use native.Mathlib.Nat.{not-suc-le-zero}
 use native.Mathlib.Numerals.{add-one, sub-one}
 use native.Mathlib.Omega.{arith}
 use mathlib.Core.Path.{_≡_, refl, ap}
-use mathlib.Core.List.{List, _∷_}
+use mathlib.Core.List.{List, [], _∷_}
 use lib.ListN.{length, getD, set}
 use lib.Seq.{getD-set-same, getD-set-other}
 use Rattle.rules.specs.declared.Frame.the-variants.{Next, Join, Loop}
@@ -71,3 +71,22 @@ pub waits-at : (at : ℕ) → 0 < at → waitingOf at ≡ Begin (at - 1)
 unfolding waitingOf
 waits-at zero h = absurd (not-suc-le-zero h)
 waits-at (suc s) h = rw (sub-one (suc s))
+
+-- ---- a word taken apart
+
+pub next-is : (w : ℕ) → w % 4 ≡ 0 → frameOf w ≡ Next (w / 64)
+unfolding frameOf
+next-is w e = rw e
+
+pub join-is : (w : ℕ) → w % 4 ≡ 1 → frameOf w ≡ Join (w / 4 % 16)
+unfolding frameOf
+join-is w e = rw e
+
+pub loop-is : (w : ℕ) → (w % 4 ≡ 0 → ⊥) → (w % 4 ≡ 1 → ⊥) → frameOf w ≡ Loop (w / 64) (w / 4 % 16)
+unfolding frameOf
+loop-is w a b = other (w % 4) a b
+  where
+    other : (k : ℕ) → (k ≡ 0 → ⊥) → (k ≡ 1 → ⊥) → getD (Next (w / 64) ∷ Join (w / 4 % 16) ∷ []) k (Loop (w / 64) (w / 4 % 16)) ≡ Loop (w / 64) (w / 4 % 16)
+    other zero a b = absurd (a refl)
+    other (suc zero) a b = absurd (b refl)
+    other (suc (suc k)) a b = refl

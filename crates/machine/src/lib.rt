@@ -28,28 +28,12 @@ pub enum Taken {
     Ends(Stop, usize),
 }
 
-// The stack's words, how many are held, the statement to begin as its number and one, and the branch tag.
+// The stack's words. What changes at every step stands beside it in locals, so that it stays in registers.
 pub struct State {
     pub stack: [u32; 512],
-    pub depth: usize,
-    pub at: usize,
-    pub tag: u8,
 }
 
 // ---- frames
-
-fn frame_of(w: u32) -> Frame
-    ensures { λ f. ⌜ f ≡ frameOf w ⌝ }
-{
-    let s = (w / 64) as usize;
-    let t = (w / 4 % 16) as u8;
-    let k = w % 4;
-    match k {
-        0 => Frame::Next(s),
-        1 => Frame::Join(t),
-        _ => Frame::Loop(s, t),
-    }
-}
 
 fn word_of(f: Frame) -> u32
     requires { ⌜ FrameSmall f ⌝ }
@@ -72,14 +56,17 @@ fn loop_taken(s: usize, t: u8, a: Again) -> Taken
     }
 }
 
-fn take(t: &[u16; 8466], u: &[u32; 4224], f: Frame, tag: u8) -> Taken
-    requires { ⌜ FrameGiven (now t) (now u) f tag ⌝ }
-    ensures { λ k. ⌜ ((r p : List ℕ) → Ready r p (now (t .entry)) (now (u .entry)) → tag < byte p 6 → FrameFits r p f → k ≡ takeIn r p (now (u .entry)) tag f) ⌝ }
+// A frame word is taken apart here and nowhere else.
+fn take(t: &[u16; 8466], u: &[u32; 4224], w: u32, tag: u8) -> Taken
+    requires { ⌜ FrameGiven (now t) (now u) (frameOf w) tag ⌝ }
+    ensures { λ k. ⌜ ((r p : List ℕ) → Ready r p (now (t .entry)) (now (u .entry)) → tag < byte p 6 → FrameFits r p (frameOf w) → k ≡ takeIn r p (now (u .entry)) tag (frameOf w)) ⌝ }
 {
-    match f {
-        Frame::Next(a) => Taken::Drops(a + 1, tag),
-        Frame::Join(g) => Taken::Drops(0, g),
-        Frame::Loop(s, g) => loop_taken(s, g, steps::again(t, u, s, tag)),
+    let s = (w / 64) as usize;
+    let g = (w / 4 % 16) as u8;
+    match w % 4 {
+        0 => Taken::Drops(s + 1, tag),
+        1 => Taken::Drops(0, g),
+        _ => loop_taken(s, g, steps::again(t, u, s, tag)),
     }
 }
 
@@ -98,18 +85,13 @@ fn run(t: &[u16; 8466], u: &mut [u32; 4224], limit: usize, q: &mut [u8], budget:
     requires { ⌜ RunGiven (now t) (now u) limit ⌝ }
     ensures { λ o. ⌜ ((r p : List ℕ) → Ready r p (now (t .entry)) (now (u .entry)) → limit ≡ recipeOf r .stmts → RunAs r p (now (t .entry)) (now (u .entry)) (now (q .entry)) budget o (now (u .exit)) (now (q .exit))) ⌝ }
 {
-    let mut x = State {
-        stack: [0u32; 512],
-        depth: 0,
-        at: limit,
-        tag: 0,
-    };
+    let mut x = State { stack: [0u32; 512] };
+    let mut depth: usize = 0;
+    let mut at: usize = limit;
+    let mut tag: u8 = 0;
     let mut steps: u32 = 0;
     let mut records: u32 = 0;
     loop {
-        let depth = x.depth;
-        let at = x.at;
-        let tag = x.tag;
         if at == 0 {
             if depth == 0 {
                 return Outcome {
@@ -127,16 +109,16 @@ fn run(t: &[u16; 8466], u: &mut [u32; 4224], limit: usize, q: &mut [u8], budget:
             }
             steps = steps + 1;
             let w = x.stack[depth - 1];
-            let k = take(t, u, frame_of(w), tag);
+            let k = take(t, u, w, tag);
             match k {
                 Taken::Keeps(next, g) => {
-                    x.at = next + 1;
-                    x.tag = g;
+                    at = next + 1;
+                    tag = g;
                 }
                 Taken::Drops(next, g) => {
-                    x.depth = depth - 1;
-                    x.at = next;
-                    x.tag = g;
+                    depth = depth - 1;
+                    at = next;
+                    tag = g;
                 }
                 Taken::Ends(h, s) => {
                     return Outcome {
@@ -159,7 +141,7 @@ fn run(t: &[u16; 8466], u: &mut [u32; 4224], limit: usize, q: &mut [u8], budget:
             let a = steps::begin(t, u, s, tag);
             match a {
                 Act::Passes => {
-                    x.at = 0;
+                    at = 0;
                 }
                 Act::Pushes(f, next, g) => {
                     if limit <= depth {
@@ -170,13 +152,13 @@ fn run(t: &[u16; 8466], u: &mut [u32; 4224], limit: usize, q: &mut [u8], budget:
                         };
                     }
                     x.stack[depth] = word_of(f);
-                    x.depth = depth + 1;
-                    x.at = next + 1;
-                    x.tag = g;
+                    depth = depth + 1;
+                    at = next + 1;
+                    tag = g;
                 }
                 Act::Writes(i, v) => {
                     put_place(u, i, v);
-                    x.at = 0;
+                    at = 0;
                 }
                 Act::Records(port, w) => {
                     let o = 5 * (records as usize);
@@ -189,7 +171,7 @@ fn run(t: &[u16; 8466], u: &mut [u32; 4224], limit: usize, q: &mut [u8], budget:
                     }
                     memory::put_record(q, o, port, w);
                     records = records + 1;
-                    x.at = 0;
+                    at = 0;
                 }
                 Act::Stops(h) => {
                     return Outcome {

@@ -12,11 +12,11 @@ use Rattle.machine.proofs.run.Statement.{statement}
 use Rattle.machine.proofs.run.Tie as tie
 
 abbrev Inv-loop : tie.InvT-loop
-Inv-loop t u₀ limit q₀ budget x₀ steps₀ records₀ u q x steps records =
-    (r p : List ℕ) → Ready r p t u₀ → limit ≡ recipeOf r .stmts → Stands r p t u₀ q₀ u q (x .stack) budget steps records (x .depth) (x .at) (x .tag)
+Inv-loop t u₀ limit q₀ budget x₀ depth₀ at₀ tag₀ steps₀ records₀ u q x depth at tag steps records =
+    (r p : List ℕ) → Ready r p t u₀ → limit ≡ recipeOf r .stmts → Stands r p t u₀ q₀ u q (x .stack) budget steps records depth at tag
 
 abbrev μ-loop : tie.MeasureT-loop
-μ-loop t u₀ limit q₀ budget x₀ steps₀ records₀ u q x steps records = budget - steps
+μ-loop t u₀ limit q₀ budget x₀ depth₀ at₀ tag₀ steps₀ records₀ u q x depth at tag steps records = budget - steps
 
 loop-holds : tie.Need-loop-holds Inv-loop μ-loop
 loop-holds c = λ r p a l. starts a (c .before .pre .all-places) refl l
@@ -45,44 +45,41 @@ mul-w c = omega (arith, depth-below (c .before .before .before .loop .inv (c .be
 element-copy-out-w : tie.Need-element-copy-out-w Inv-loop μ-loop
 element-copy-out-w c = omega (arith, depth-below (c .before .before .before .loop .inv (c .before .before .before .before .before .pre .recipe) (c .before .before .before .before .before .pre .policy) (c .before .before .before .before .before .pre .ready) (c .before .before .before .before .before .pre .limited)), (c .before .before .before .loop .inv (c .before .before .before .before .before .pre .recipe) (c .before .before .before .before .before .pre .policy) (c .before .before .before .before .before .pre .ready) (c .before .before .before .before .before .pre .limited)) .size, (c .before .before .before .loop .inv (c .before .before .before .before .before .pre .recipe) (c .before .before .before .before .before .pre .policy) (c .before .before .before .before .before .pre .ready) (c .before .before .before .before .before .pre .limited)) .ready .recipe .counts .few-stmts)
 
-frame-of-requires : tie.Need-frame-of-requires Inv-loop μ-loop
-frame-of-requires c κs = search needs
-
 take-requires : tie.Need-take-requires Inv-loop μ-loop
-take-requires c κs = record { recipe = c .before .before .before .before .before .before .before .before .pre .recipe; policy = c .before .before .before .before .before .before .before .before .pre .policy; ready = (c .before .before .before .before .before .before .loop .inv (c .before .before .before .before .before .before .before .before .pre .recipe) (c .before .before .before .before .before .before .before .before .pre .policy) (c .before .before .before .before .before .before .before .before .pre .ready) (c .before .before .before .before .before .before .before .before .pre .limited)) .ready; branch = (c .before .before .before .before .before .before .loop .inv (c .before .before .before .before .before .before .before .before .pre .recipe) (c .before .before .before .before .before .before .before .before .pre .policy) (c .before .before .before .before .before .before .before .before .pre .ready) (c .before .before .before .before .before .before .before .before .pre .limited)) .standing .branch; frame = top-fits (c .before .before .before .before .before .before .loop .inv (c .before .before .before .before .before .before .before .before .pre .recipe) (c .before .before .before .before .before .before .before .before .pre .policy) (c .before .before .before .before .before .before .before .before .pre .ready) (c .before .before .before .before .before .before .before .before .pre .limited)) (pos-of-ne-zero (c .before .before .before .before .if2 .left)) (c .frame-of .ensures) }
+take-requires c κs = record { recipe = c .before .before .before .before .before .before .before .pre .recipe; policy = c .before .before .before .before .before .before .before .pre .policy; ready = (c .before .before .before .before .before .loop .inv (c .before .before .before .before .before .before .before .pre .recipe) (c .before .before .before .before .before .before .before .pre .policy) (c .before .before .before .before .before .before .before .pre .ready) (c .before .before .before .before .before .before .before .pre .limited)) .ready; branch = (c .before .before .before .before .before .loop .inv (c .before .before .before .before .before .before .before .pre .recipe) (c .before .before .before .before .before .before .before .pre .policy) (c .before .before .before .before .before .before .before .pre .ready) (c .before .before .before .before .before .before .before .pre .limited)) .standing .branch; frame = top-fits (c .before .before .before .before .before .loop .inv (c .before .before .before .before .before .before .before .pre .recipe) (c .before .before .before .before .before .before .before .pre .policy) (c .before .before .before .before .before .before .before .pre .ready) (c .before .before .before .before .before .before .before .pre .limited)) (pos-of-ne-zero (c .before .before .before .if2 .left)) refl }
 
 enum-known-k : tie.Need-enum-known-k Inv-loop μ-loop
 enum-known-k c = search needs
 
-add-x : tie.Need-add-x Inv-loop μ-loop
-add-x c = omega (arith, keeps-below (c .before .before .before .before .before .before .before .before .before .before .loop .inv (c .before .before .before .before .before .before .before .before .before .before .before .before .pre .recipe) (c .before .before .before .before .before .before .before .before .before .before .before .before .pre .policy) (c .before .before .before .before .before .before .before .before .before .before .before .before .pre .ready) (c .before .before .before .before .before .before .before .before .before .before .before .before .pre .limited)) (c .before .before .before .before .before .before .before .if3 .left) (c .before .before .before .before .before .before .before .before .before .if1 .taken) (pos-of-ne-zero (c .before .before .before .before .before .before .before .before .if2 .left)) (c .before .before .before .before .frame-of .ensures) (c .before .before .before .take .ensures (c .before .before .before .before .before .before .before .before .before .before .before .before .pre .recipe) (c .before .before .before .before .before .before .before .before .before .before .before .before .pre .policy) ((c .before .before .before .before .before .before .before .before .before .before .loop .inv (c .before .before .before .before .before .before .before .before .before .before .before .before .pre .recipe) (c .before .before .before .before .before .before .before .before .before .before .before .before .pre .policy) (c .before .before .before .before .before .before .before .before .before .before .before .before .pre .ready) (c .before .before .before .before .before .before .before .before .before .before .before .before .pre .limited)) .ready) ((c .before .before .before .before .before .before .before .before .before .before .loop .inv (c .before .before .before .before .before .before .before .before .before .before .before .before .pre .recipe) (c .before .before .before .before .before .before .before .before .before .before .before .before .pre .policy) (c .before .before .before .before .before .before .before .before .before .before .before .before .pre .ready) (c .before .before .before .before .before .before .before .before .before .before .before .before .pre .limited)) .standing .branch) (top-fits (c .before .before .before .before .before .before .before .before .before .before .loop .inv (c .before .before .before .before .before .before .before .before .before .before .before .before .pre .recipe) (c .before .before .before .before .before .before .before .before .before .before .before .before .pre .policy) (c .before .before .before .before .before .before .before .before .before .before .before .before .pre .ready) (c .before .before .before .before .before .before .before .before .before .before .before .before .pre .limited)) (pos-of-ne-zero (c .before .before .before .before .before .before .before .before .if2 .left)) (c .before .before .before .before .frame-of .ensures))) (c .before .k .given .1), (c .before .before .before .before .before .before .before .before .before .before .loop .inv (c .before .before .before .before .before .before .before .before .before .before .before .before .pre .recipe) (c .before .before .before .before .before .before .before .before .before .before .before .before .pre .policy) (c .before .before .before .before .before .before .before .before .before .before .before .before .pre .ready) (c .before .before .before .before .before .before .before .before .before .before .before .before .pre .limited)) .ready .recipe .counts .few-stmts)
+add-at : tie.Need-add-at Inv-loop μ-loop
+add-at c = omega (arith, keeps-below (c .before .before .before .before .before .before .before .before .before .loop .inv (c .before .before .before .before .before .before .before .before .before .before .before .pre .recipe) (c .before .before .before .before .before .before .before .before .before .before .before .pre .policy) (c .before .before .before .before .before .before .before .before .before .before .before .pre .ready) (c .before .before .before .before .before .before .before .before .before .before .before .pre .limited)) (c .before .before .before .before .before .before .if3 .left) (c .before .before .before .before .before .before .before .before .if1 .taken) (pos-of-ne-zero (c .before .before .before .before .before .before .before .if2 .left)) refl (c .before .before .before .take .ensures (c .before .before .before .before .before .before .before .before .before .before .before .pre .recipe) (c .before .before .before .before .before .before .before .before .before .before .before .pre .policy) ((c .before .before .before .before .before .before .before .before .before .loop .inv (c .before .before .before .before .before .before .before .before .before .before .before .pre .recipe) (c .before .before .before .before .before .before .before .before .before .before .before .pre .policy) (c .before .before .before .before .before .before .before .before .before .before .before .pre .ready) (c .before .before .before .before .before .before .before .before .before .before .before .pre .limited)) .ready) ((c .before .before .before .before .before .before .before .before .before .loop .inv (c .before .before .before .before .before .before .before .before .before .before .before .pre .recipe) (c .before .before .before .before .before .before .before .before .before .before .before .pre .policy) (c .before .before .before .before .before .before .before .before .before .before .before .pre .ready) (c .before .before .before .before .before .before .before .before .before .before .before .pre .limited)) .standing .branch) (top-fits (c .before .before .before .before .before .before .before .before .before .loop .inv (c .before .before .before .before .before .before .before .before .before .before .before .pre .recipe) (c .before .before .before .before .before .before .before .before .before .before .before .pre .policy) (c .before .before .before .before .before .before .before .before .before .before .before .pre .ready) (c .before .before .before .before .before .before .before .before .before .before .before .pre .limited)) (pos-of-ne-zero (c .before .before .before .before .before .before .before .if2 .left)) refl)) (c .before .k .given .1), (c .before .before .before .before .before .before .before .before .before .loop .inv (c .before .before .before .before .before .before .before .before .before .before .before .pre .recipe) (c .before .before .before .before .before .before .before .before .before .before .before .pre .policy) (c .before .before .before .before .before .before .before .before .before .before .before .pre .ready) (c .before .before .before .before .before .before .before .before .before .before .before .pre .limited)) .ready .recipe .counts .few-stmts)
 
 loop-less : tie.Need-loop-less Inv-loop μ-loop
 loop-less c = search needs
 
 loop-again : tie.Need-loop-again Inv-loop μ-loop
-loop-again c = λ r p a l. let g = c .before .before .before .before .before .before .before .before .before .before .loop .inv r p a l in keeps-on g (c .before .before .before .before .before .before .before .if3 .left) (c .before .before .before .before .before .before .before .before .before .if1 .taken) (pos-of-ne-zero (c .before .before .before .before .before .before .before .before .if2 .left)) (c .before .before .before .before .frame-of .ensures) (c .before .before .before .take .ensures r p (g .ready) (g .standing .branch) (top-fits g (pos-of-ne-zero (c .before .before .before .before .before .before .before .before .if2 .left)) (c .before .before .before .before .frame-of .ensures))) (c .before .k .given .1)
+loop-again c = λ r p a l. let g = c .before .before .before .before .before .before .before .before .before .loop .inv r p a l in keeps-on g (c .before .before .before .before .before .before .if3 .left) (c .before .before .before .before .before .before .before .before .if1 .taken) (pos-of-ne-zero (c .before .before .before .before .before .before .before .if2 .left)) refl (c .before .before .before .take .ensures r p (g .ready) (g .standing .branch) (top-fits g (pos-of-ne-zero (c .before .before .before .before .before .before .before .if2 .left)) refl)) (c .before .k .given .1)
 
 enum-known-k-2 : tie.Need-enum-known-k-2 Inv-loop μ-loop
 enum-known-k-2 c = search needs
 
-sub-x : tie.Need-sub-x Inv-loop μ-loop
-sub-x c = search needs
+sub-depth : tie.Need-sub-depth Inv-loop μ-loop
+sub-depth c = search needs
 
 loop-less-2 : tie.Need-loop-less-2 Inv-loop μ-loop
 loop-less-2 c = search needs
 
 loop-again-2 : tie.Need-loop-again-2 Inv-loop μ-loop
-loop-again-2 c = λ r p a l. let g = c .before .before .before .before .before .before .before .before .before .before .loop .inv r p a l in drops-on g (c .before .before .before .before .before .before .before .if3 .left) (c .before .before .before .before .before .before .before .before .before .if1 .taken) (pos-of-ne-zero (c .before .before .before .before .before .before .before .before .if2 .left)) (c .before .before .before .before .frame-of .ensures) (c .before .before .before .take .ensures r p (g .ready) (g .standing .branch) (top-fits g (pos-of-ne-zero (c .before .before .before .before .before .before .before .before .if2 .left)) (c .before .before .before .before .frame-of .ensures))) (c .before .k2 .given .1)
+loop-again-2 c = λ r p a l. let g = c .before .before .before .before .before .before .before .before .before .loop .inv r p a l in drops-on g (c .before .before .before .before .before .before .if3 .left) (c .before .before .before .before .before .before .before .before .if1 .taken) (pos-of-ne-zero (c .before .before .before .before .before .before .before .if2 .left)) refl (c .before .before .before .take .ensures r p (g .ready) (g .standing .branch) (top-fits g (pos-of-ne-zero (c .before .before .before .before .before .before .before .if2 .left)) refl)) (c .before .k2 .given .1)
 
 enum-known-k-3 : tie.Need-enum-known-k-3 Inv-loop μ-loop
 enum-known-k-3 c = search needs
 
 same-length-3 : tie.Need-same-length-3 Inv-loop μ-loop
-same-length-3 c = (c .before .before .before .before .before .before .before .before .before .before .loop .inv (c .before .before .before .before .before .before .before .before .before .before .before .before .pre .recipe) (c .before .before .before .before .before .before .before .before .before .before .before .before .pre .policy) (c .before .before .before .before .before .before .before .before .before .before .before .before .pre .ready) (c .before .before .before .before .before .before .before .before .before .before .before .before .pre .limited)) .same-room
+same-length-3 c = (c .before .before .before .before .before .before .before .before .before .loop .inv (c .before .before .before .before .before .before .before .before .before .before .before .pre .recipe) (c .before .before .before .before .before .before .before .before .before .before .before .pre .policy) (c .before .before .before .before .before .before .before .before .before .before .before .pre .ready) (c .before .before .before .before .before .before .before .before .before .before .before .pre .limited)) .same-room
 
 returns-3 : tie.Need-returns-3 Inv-loop μ-loop
-returns-3 c = λ r p a l. let g = c .before .before .before .before .before .before .before .before .before .before .loop .inv r p a l in stops-taken g (c .before .before .before .before .before .before .before .if3 .left) (c .before .before .before .before .before .before .before .before .before .if1 .taken) (pos-of-ne-zero (c .before .before .before .before .before .before .before .before .if2 .left)) (c .before .before .before .before .frame-of .ensures) (c .before .before .before .take .ensures r p (g .ready) (g .standing .branch) (top-fits g (pos-of-ne-zero (c .before .before .before .before .before .before .before .before .if2 .left)) (c .before .before .before .before .frame-of .ensures))) (c .before .k3 .given .1)
+returns-3 c = λ r p a l. let g = c .before .before .before .before .before .before .before .before .before .loop .inv r p a l in stops-taken g (c .before .before .before .before .before .before .if3 .left) (c .before .before .before .before .before .before .before .before .if1 .taken) (pos-of-ne-zero (c .before .before .before .before .before .before .before .if2 .left)) refl (c .before .before .before .take .ensures r p (g .ready) (g .standing .branch) (top-fits g (pos-of-ne-zero (c .before .before .before .before .before .before .before .if2 .left)) refl)) (c .before .k3 .given .1)
 
 same-length-4 : tie.Need-same-length-4 Inv-loop μ-loop
 same-length-4 c = (c .before .before .loop .inv (c .before .before .before .before .pre .recipe) (c .before .before .before .before .pre .policy) (c .before .before .before .before .pre .ready) (c .before .before .before .before .pre .limited)) .same-room
@@ -126,11 +123,11 @@ mul-x c = search needs
 element-write-x : tie.Need-element-write-x Inv-loop μ-loop
 element-write-x c = omega (arith, c .before .if5 .left, c .before .before .before .before .before .before .before .before .before .before .before .pre .limited, (c .before .before .before .before .before .before .before .before .before .loop .inv (c .before .before .before .before .before .before .before .before .before .before .before .pre .recipe) (c .before .before .before .before .before .before .before .before .before .before .before .pre .policy) (c .before .before .before .before .before .before .before .before .before .before .before .pre .ready) (c .before .before .before .before .before .before .before .before .before .before .before .pre .limited)) .size, (c .before .before .before .before .before .before .before .before .before .loop .inv (c .before .before .before .before .before .before .before .before .before .before .before .pre .recipe) (c .before .before .before .before .before .before .before .before .before .before .before .pre .policy) (c .before .before .before .before .before .before .before .before .before .before .before .pre .ready) (c .before .before .before .before .before .before .before .before .before .before .before .pre .limited)) .ready .recipe .counts .few-stmts)
 
-add-x-2 : tie.Need-add-x-2 Inv-loop μ-loop
-add-x-2 c = omega (arith, c .before .if5 .left, c .before .before .before .before .before .before .before .before .before .before .before .pre .limited, (c .before .before .before .before .before .before .before .before .before .loop .inv (c .before .before .before .before .before .before .before .before .before .before .before .pre .recipe) (c .before .before .before .before .before .before .before .before .before .before .before .pre .policy) (c .before .before .before .before .before .before .before .before .before .before .before .pre .ready) (c .before .before .before .before .before .before .before .before .before .before .before .pre .limited)) .ready .recipe .counts .few-stmts)
+add-depth : tie.Need-add-depth Inv-loop μ-loop
+add-depth c = omega (arith, c .before .if5 .left, c .before .before .before .before .before .before .before .before .before .before .before .pre .limited, (c .before .before .before .before .before .before .before .before .before .loop .inv (c .before .before .before .before .before .before .before .before .before .before .before .pre .recipe) (c .before .before .before .before .before .before .before .before .before .before .before .pre .policy) (c .before .before .before .before .before .before .before .before .before .before .before .pre .ready) (c .before .before .before .before .before .before .before .before .before .before .before .pre .limited)) .ready .recipe .counts .few-stmts)
 
-add-x-3 : tie.Need-add-x-3 Inv-loop μ-loop
-add-x-3 c = omega (arith, push-below (c .before .before .before .before .before .before .before .before .before .loop .inv (c .before .before .before .before .before .before .before .before .before .before .before .pre .recipe) (c .before .before .before .before .before .before .before .before .before .before .before .pre .policy) (c .before .before .before .before .before .before .before .before .before .before .before .pre .ready) (c .before .before .before .before .before .before .before .before .before .before .before .pre .limited)) (c .before .before .before .before .before .before .before .if4 .left) (pos-of-ne-zero (c .before .before .before .before .before .before .before .before .if1 .left)) (c .before .before .before .before .before .begin .ensures (c .before .before .before .before .before .before .before .before .before .before .before .pre .recipe) (c .before .before .before .before .before .before .before .before .before .before .before .pre .policy) ((c .before .before .before .before .before .before .before .before .before .loop .inv (c .before .before .before .before .before .before .before .before .before .before .before .pre .recipe) (c .before .before .before .before .before .before .before .before .before .before .before .pre .policy) (c .before .before .before .before .before .before .before .before .before .before .before .pre .ready) (c .before .before .before .before .before .before .before .before .before .before .before .pre .limited)) .ready) (next-below (c .before .before .before .before .before .before .before .before .before .loop .inv (c .before .before .before .before .before .before .before .before .before .before .before .pre .recipe) (c .before .before .before .before .before .before .before .before .before .before .before .pre .policy) (c .before .before .before .before .before .before .before .before .before .before .before .pre .ready) (c .before .before .before .before .before .before .before .before .before .before .before .pre .limited)) (pos-of-ne-zero (c .before .before .before .before .before .before .before .before .if1 .left))) ((c .before .before .before .before .before .before .before .before .before .loop .inv (c .before .before .before .before .before .before .before .before .before .before .before .pre .recipe) (c .before .before .before .before .before .before .before .before .before .before .before .pre .policy) (c .before .before .before .before .before .before .before .before .before .before .before .pre .ready) (c .before .before .before .before .before .before .before .before .before .before .before .pre .limited)) .standing .branch)) (c .before .before .before .a .given .1), (c .before .before .before .before .before .before .before .before .before .loop .inv (c .before .before .before .before .before .before .before .before .before .before .before .pre .recipe) (c .before .before .before .before .before .before .before .before .before .before .before .pre .policy) (c .before .before .before .before .before .before .before .before .before .before .before .pre .ready) (c .before .before .before .before .before .before .before .before .before .before .before .pre .limited)) .ready .recipe .counts .few-stmts)
+add-at-2 : tie.Need-add-at-2 Inv-loop μ-loop
+add-at-2 c = omega (arith, push-below (c .before .before .before .before .before .before .before .before .before .loop .inv (c .before .before .before .before .before .before .before .before .before .before .before .pre .recipe) (c .before .before .before .before .before .before .before .before .before .before .before .pre .policy) (c .before .before .before .before .before .before .before .before .before .before .before .pre .ready) (c .before .before .before .before .before .before .before .before .before .before .before .pre .limited)) (c .before .before .before .before .before .before .before .if4 .left) (pos-of-ne-zero (c .before .before .before .before .before .before .before .before .if1 .left)) (c .before .before .before .before .before .begin .ensures (c .before .before .before .before .before .before .before .before .before .before .before .pre .recipe) (c .before .before .before .before .before .before .before .before .before .before .before .pre .policy) ((c .before .before .before .before .before .before .before .before .before .loop .inv (c .before .before .before .before .before .before .before .before .before .before .before .pre .recipe) (c .before .before .before .before .before .before .before .before .before .before .before .pre .policy) (c .before .before .before .before .before .before .before .before .before .before .before .pre .ready) (c .before .before .before .before .before .before .before .before .before .before .before .pre .limited)) .ready) (next-below (c .before .before .before .before .before .before .before .before .before .loop .inv (c .before .before .before .before .before .before .before .before .before .before .before .pre .recipe) (c .before .before .before .before .before .before .before .before .before .before .before .pre .policy) (c .before .before .before .before .before .before .before .before .before .before .before .pre .ready) (c .before .before .before .before .before .before .before .before .before .before .before .pre .limited)) (pos-of-ne-zero (c .before .before .before .before .before .before .before .before .if1 .left))) ((c .before .before .before .before .before .before .before .before .before .loop .inv (c .before .before .before .before .before .before .before .before .before .before .before .pre .recipe) (c .before .before .before .before .before .before .before .before .before .before .before .pre .policy) (c .before .before .before .before .before .before .before .before .before .before .before .pre .ready) (c .before .before .before .before .before .before .before .before .before .before .before .pre .limited)) .standing .branch)) (c .before .before .before .a .given .1), (c .before .before .before .before .before .before .before .before .before .loop .inv (c .before .before .before .before .before .before .before .before .before .before .before .pre .recipe) (c .before .before .before .before .before .before .before .before .before .before .before .pre .policy) (c .before .before .before .before .before .before .before .before .before .before .before .pre .ready) (c .before .before .before .before .before .before .before .before .before .before .before .pre .limited)) .ready .recipe .counts .few-stmts)
 
 loop-less-4 : tie.Need-loop-less-4 Inv-loop μ-loop
 loop-less-4 c = search needs
@@ -204,14 +201,13 @@ run-spec =
     sub-w
     mul-w
     element-copy-out-w
-    frame-of-requires
     take-requires
     enum-known-k
-    add-x
+    add-at
     loop-less
     loop-again
     enum-known-k-2
-    sub-x
+    sub-depth
     loop-less-2
     loop-again-2
     enum-known-k-3
@@ -231,8 +227,8 @@ run-spec =
     word-of-requires
     mul-x
     element-write-x
-    add-x-2
-    add-x-3
+    add-depth
+    add-at-2
     loop-less-4
     loop-again-4
     enum-known-a-2

@@ -1,46 +1,35 @@
 -- Each frame asks what its own rule says. Assumes nothing.
 use native.Mathlib.Omega.{arith}
+use Rattle.machine.proofs.Frames.{next-is, join-is, loop-is}
 use borrow.Author.Needs.{needs}
 use Rattle.machine.proofs.take.Statement.{statement}
 use Rattle.machine.proofs.take.Tie as tie
 
-enum-known-f : tie.Need-enum-known-f
-enum-known-f c = search needs
+cast-s : tie.Need-cast-s
+cast-s c = search needs
 
-add-t10 : tie.Need-add-t10
-add-t10 c = omega (arith, rw (c .before .f .given .1) at (c .before .before .before .pre .frame), c .before .before .before .pre .ready .recipe .counts .few-stmts)
+cast-g : tie.Need-cast-g
+cast-g c = search needs
 
-enum-known-f-2 : tie.Need-enum-known-f-2
-enum-known-f-2 c = search needs
-
-enum-known-f-3 : tie.Need-enum-known-f-3
-enum-known-f-3 c = search needs
+add-t11 : tie.Need-add-t11
+add-t11 c = omega (arith, rw (next-is _ (c .match .keys1)) at (c .before .pre .frame), c .before .pre .ready .recipe .counts .few-stmts)
 
 again-requires : tie.Need-again-requires
-again-requires c κs = let h = rw (c .before .f3 .given .1) at (c .before .before .before .pre .frame) in record { recipe = c .before .before .before .pre .recipe; policy = c .before .before .before .pre .policy; ready = c .before .before .before .pre .ready; there = h .0; branch = c .before .before .before .pre .branch }
+again-requires c κs = let h = rw (loop-is _ (c .match .rest .0 .1) (c .match .rest .1)) at (c .before .pre .frame) in record { recipe = c .before .pre .recipe; policy = c .before .pre .policy; ready = c .before .pre .ready; there = h .0; branch = c .before .pre .branch }
 
 loop-taken-requires : tie.Need-loop-taken-requires
 loop-taken-requires c κs = search needs
 
 returns : tie.Need-returns
-returns c = λ r p a b f. rw (c .before .f .given .1)
+returns c = λ r p a b f. rw (next-is _ (c .match .keys1))
 
 returns-2 : tie.Need-returns-2
-returns-2 c = λ r p a b f. rw (c .before .f2 .given .1)
+returns-2 c = λ r p a b f. rw (join-is _ (c .match .keys2))
 
 returns-3 : tie.Need-returns-3
-returns-3 c = λ r p a b f. let h = rw (c .before .before .before .f3 .given .1) at f in rw (c .before .before .before .f3 .given .1, ← c .before .again .ensures r p a (h .0) b) (c .loop-taken .ensures)
+returns-3 c = λ r p a b f. let e = loop-is _ (c .before .before .match .rest .0 .1) (c .before .before .match .rest .1) in let h = rw e at f in rw (e, ← c .before .again .ensures r p a (h .0) b) (c .loop-taken .ensures)
 
 pub take-spec : {M : Type 1} → statement M
 take-spec =
     tie.close
-    (tie.spec
-    enum-known-f
-    add-t10
-    enum-known-f-2
-    enum-known-f-3
-    again-requires
-    loop-taken-requires
-    returns
-    returns-2
-    returns-3)
+    (tie.spec cast-s cast-g add-t11 again-requires loop-taken-requires returns returns-2 returns-3)
