@@ -29,7 +29,11 @@ use Rattle.layout.specs.Places.{placeIn, heldIn, ConstantAs, Ready, valueIn}
 use Rattle.layout.specs.Answers.{answerOf}
 use Rattle.layout.proofs.Places.{place-held, sound-ready, places-ready}
 use Rattle.layout.proofs.Answers.{unary-back, unary-range, binary-back, binary-range, Answer, worth, failed, answers}
-use Rattle.eval.specs.Packed.{wordIn, tagIn, Joined, unaryIn, binaryIn, cellIn, cellPlace, CellAsked}
+use Rattle.eval.specs.Packed.{wordIn, tagIn, unaryIn, binaryIn, cellIn, cellPlace, CellAsked}
+
+-- an operator's number is not that of a leaf
+pub compound : {k : ℕ} → (k ≡ 0 → ⊥) → 0 < k
+compound n = omega (arith, n)
 
 module _ {r p t u : List ℕ} (a : Ready r p t u) where
   abbrev P : Policy
@@ -46,7 +50,6 @@ module _ {r p t u : List ℕ} (a : Ready r p t u) where
   record Leaf (k l : ℕ) (o : Valued) : Type 0 where
     number : k ≡ 0
     there : l < 2112
-    tag : getD u (2112 + l) 0 < 256
     is : o ≡ Value (placeIn u l)
 
   record CellAt (e k l : ℕ) (o : Valued) : Type 0 where
@@ -80,13 +83,12 @@ module _ {r p t u : List ℕ} (a : Ready r p t u) where
       let few = a .recipe .counts .few-exprs in
       let at : 2112 + (1088 + e) ≡ 3200 + e = omega arith in
       let tag : getD u (2112 + (1088 + e)) 0 ≡ 0 = rw at (c .1) in
-      rw (l) (leaf (record { number = k; there = omega arith; tag = omega arith; is = rw (c .0, tag) v }))
+      rw (l) (leaf (record { number = k; there = omega arith; is = rw (c .0, tag) v }))
   kind-of e (Variable x) there ok c k l m v =
       let few = a .recipe .counts .few-vars in
       let held-there : x < count R = omega arith in
-      let good = a .tags-below x held-there in
       let place = place-held R u x held-there in
-      rw (l) (leaf (record { number = k; there = omega arith; tag = omega (arith, good, a .policy .few-tags); is = v ∙ ap Value place }))
+      rw (l) (leaf (record { number = k; there = omega arith; is = v ∙ ap Value place }))
   kind-of e (Cell i) there ok c k l m v = rw (l) (cell (record { number = k; lower = ok; is = v }))
   kind-of e (Unary op i) there ok c k l m v = rw (l) (unary (record { op = op; number = k; lower = ok; is = v }))
   kind-of e (Binary op i j) there ok c k l m v =
@@ -126,8 +128,8 @@ module _ {r p t u : List ℕ} (a : Ready r p t u) where
     is-binary (unary x) q = absurd (omega (arith, x .number, unary-range (x .op) .1))
     is-binary (binary x) q = x
 
-    lower-of : Kind e k l m o → (k ≡ 0 → ⊥) → l < e
-    lower-of (leaf x) n = absurd (n (x .number))
+    lower-of : Kind e k l m o → 0 < k → l < e
+    lower-of (leaf x) n = absurd (omega (arith, x .number))
     lower-of (cell x) n = x .lower
     lower-of (unary x) n = x .lower
     lower-of (binary x) n = x .lower
@@ -159,36 +161,34 @@ module _ {r p t u : List ℕ} (a : Ready r p t u) where
   is-worth (worth {p = v} s w g ok) l = record { place = v; is = refl; word = w; tag = g; good = ok .good }
   is-worth (failed s q) l = absurd (omega arith)
 
+  small-worth : {x : ℕ} {v : Place} → Answer P x (Value v) → x < 9223372036854775808
+  small-worth (worth s w g ok) = s
+
   answer-of : (i : ℕ) {x : ℕ} → x ≡ answerOf (valueIn r p u i) → Answer P x (valueIn r p u i)
   answer-of i q = answers (a .policy .few-tags) (proper (sound-ready a) (places-ready a) i) q
 
-  pub tag-below : (i : ℕ) {x : ℕ} → x ≡ answerOf (valueIn r p u i) → x < 9223372036854775808 → tagIn x < byte p 6
+  -- the join's table has a row and a column for every tag
+  few-tag : {b : ℕ} → b < byte p 6 → b < 16
+  few-tag l = omega (arith, a .policy .few-tags)
+
+  tag-below : (i : ℕ) {x : ℕ} → x ≡ answerOf (valueIn r p u i) → x < 9223372036854775808 → tagIn x < byte p 6
   tag-below i q l =
       let v = is-worth (answer-of i q) l in
       rw (v .tag) (v .good)
 
-  join-below : {b c : ℕ} → b < P .tags → c < P .tags → P .join b c < P .tags
-  join-below l m = sound-ready a .lawful .join-below _ _ l m
-
-  pub joined : {b c : ℕ} → b < byte p 6 → c < byte p 6 → Joined t b c
-  joined {b} {c} l m =
-      let few = a .policy .few-tags in
-      record {
-        left = omega arith;
-        right = omega arith;
-        tag = rw (a .decoded .joins-as b c l m) (omega (arith, join-below l m));
-      }
+  pub tag-few : (i : ℕ) {x : ℕ} → x ≡ answerOf (valueIn r p u i) → x < 9223372036854775808 → tagIn x < 16
+  tag-few i q l = few-tag (tag-below i q l)
 
   cell-in : (i : ℕ) → i < getD t 8465 0 → getD t 8464 0 + i < count R
   cell-in i l = omega (arith, a .decoded .vars-as, a .decoded .cells-as)
 
-  pub cell-asked : {x : ℕ} → tagIn x < byte p 6 → CellAsked t u x
-  cell-asked {x} g =
+  pub cell-asked : (i : ℕ) {x : ℕ} → x ≡ answerOf (valueIn r p u i) → x < 9223372036854775808 → CellAsked t u x
+  cell-asked i {x} q s =
       let few = a .recipe .counts in
       record {
         few = omega (arith, a .decoded .cells-as, few .few-cells);
         inside = λ l. omega (arith, cell-in (wordIn x) l, few .few-vars, few .few-cells);
-        tags = λ l. joined (a .tags-below (cellPlace t x) (cell-in (wordIn x) l)) g;
+        tags = λ l. (few-tag (a .tags-below (cellPlace t x) (cell-in (wordIn x) l)), tag-few i q s);
       }
 
   -- ---- the operators on worthy answers
@@ -217,18 +217,24 @@ module _ {r p t u : List ℕ} (a : Ready r p t u) where
   -- ---- expression e
 
   module _ (e : ℕ) (there : e < R .exprs) where
-    pub leaf-there : getD t (4 * e) 0 ≡ 0 → (getD t (4 * e + 1) 0 < 2112) × (getD u (2112 + getD t (4 * e + 1) 0) 0 < 256)
-    leaf-there q =
-        let x = is-leaf (kind e there) q in
-        (x .there, x .tag)
+    pub leaf-there : getD t (4 * e) 0 ≡ 0 → getD t (4 * e + 1) 0 < 2112
+    leaf-there q = is-leaf (kind e there) q .there
 
     pub leaf-value : getD t (4 * e) 0 ≡ 0 → {z : ℕ} → z ≡ answerOf (Value (placeIn u (getD t (4 * e + 1) 0))) → z ≡ answerOf (valueIn r p u e)
     leaf-value q f =
         let x = is-leaf (kind e there) q in
         rw (x .is) f
 
-    pub left-lower : (getD t (4 * e) 0 ≡ 0 → ⊥) → getD t (4 * e + 1) 0 < e
+    pub leaf-small : getD t (4 * e) 0 ≡ 0 → {z : ℕ} → z ≡ answerOf (valueIn r p u e) → z < 9223372036854775808
+    leaf-small q f =
+        let x = is-leaf (kind e there) q in
+        small-worth (rw (x .is) at (answer-of e f))
+
+    pub left-lower : 0 < getD t (4 * e) 0 → getD t (4 * e + 1) 0 < e
     left-lower n = lower-of (kind e there) n
+
+    pub left-there : 0 < getD t (4 * e) 0 → getD t (4 * e + 1) 0 < R .exprs
+    left-there n = omega (arith, left-lower n, there)
 
     pub left-small : getD t (4 * e + 1) 0 < 2112
     left-small = small-of (kind e there) (omega (arith, there, a .recipe .counts .few-exprs))
@@ -236,19 +242,22 @@ module _ {r p t u : List ℕ} (a : Ready r p t u) where
     pub right-lower : 5 ≤ getD t (4 * e) 0 → getD t (4 * e + 2) 0 < e
     right-lower n = is-binary (kind e there) n .right-lower
 
+    pub right-there : 5 ≤ getD t (4 * e) 0 → getD t (4 * e + 2) 0 < R .exprs
+    right-there n = omega (arith, right-lower n, there)
+
     pub binary-few : 5 ≤ getD t (4 * e) 0 → getD t (4 * e) 0 < 14
     binary-few n =
         let x = is-binary (kind e there) n in
         rw (x .number) (binary-range (x .op) .1)
 
     module _ {x : ℕ} (f : x ≡ answerOf (valueIn r p u (getD t (4 * e + 1) 0))) where
-      left-fault-by : {k l m : ℕ} {o : Valued} → Kind e k l m o → (k ≡ 0 → ⊥) → Faulty (valueIn r p u l) → x ≡ answerOf (valueIn r p u l) → x ≡ answerOf o
-      left-fault-by (leaf y) n w q = absurd (n (y .number))
+      left-fault-by : {k l m : ℕ} {o : Valued} → Kind e k l m o → 0 < k → Faulty (valueIn r p u l) → x ≡ answerOf (valueIn r p u l) → x ≡ answerOf o
+      left-fault-by (leaf y) n w q = absurd (omega (arith, y .number))
       left-fault-by (cell y) n w q = rw (y .is, w .is) (rw (w .is) at q)
       left-fault-by (unary y) n w q = rw (y .is, w .is) (rw (w .is) at q)
       left-fault-by (binary y) n w q = rw (y .is, w .is) (rw (w .is) at q)
 
-      pub left-fault : (getD t (4 * e) 0 ≡ 0 → ⊥) → 9223372036854775808 ≤ x → x ≡ answerOf (valueIn r p u e)
+      pub left-fault : 0 < getD t (4 * e) 0 → 9223372036854775808 ≤ x → x ≡ answerOf (valueIn r p u e)
       left-fault n h = left-fault-by (kind e there) n (is-fault (answer-of _ f) h) f
 
       module _ (s : x < 9223372036854775808) where

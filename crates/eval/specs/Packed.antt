@@ -18,12 +18,6 @@ tagIn x = x / 4294967296
 abbrev pub wordIn : ℕ → ℕ
 wordIn x = x % 4294967296
 
--- two tags whose join is a tag
-pub record Joined (t : List ℕ) (a b : ℕ) : Type 0 where
-  pub left : a < 16
-  pub right : b < 16
-  pub tag : joinIn t a b < 256
-
 abbrev pub unaryIn : (k x : ℕ) → ℕ
 unaryIn k x = answerOf (Value (unary (unaryFrom k) (wordIn x) # tagIn x))
 
@@ -43,4 +37,4 @@ cellIn t u x =
 pub record CellAsked (t u : List ℕ) (x : ℕ) : Type 0 where
   pub few : getD t 8465 0 ≤ 1024
   pub inside : wordIn x < getD t 8465 0 → cellPlace t x < 2112
-  pub tags : wordIn x < getD t 8465 0 → Joined t (getD u (2112 + cellPlace t x) 0) (tagIn x)
+  pub tags : wordIn x < getD t 8465 0 → (getD u (2112 + cellPlace t x) 0 < 16) × (tagIn x < 16)

@@ -8,7 +8,7 @@ ghost use Rattle.rules.specs.Recipe.{recipeOf};
 ghost use Rattle.layout.specs.Tables.{joinIn};
 ghost use Rattle.layout.specs.Places.{placeIn, Ready, ExprGiven, valueIn};
 ghost use Rattle.layout.specs.Answers.{answerOf, stopFrom};
-ghost use Rattle.eval.specs.Packed.{tagIn, Joined, unaryIn, binaryIn, cellIn, CellAsked};
+ghost use Rattle.eval.specs.Packed.{tagIn, unaryIn, binaryIn, cellIn, CellAsked};
 use rules::Stop;
 use rules::Valued;
 
@@ -22,11 +22,10 @@ pub fn word_of(x: u64) -> u32
     (x % 4294967296) as u32
 }
 
-pub fn tag_of(x: u64) -> u8
-    requires { ⌜ x / 4294967296 < 256 ⌝ }
+pub fn tag_of(x: u64) -> u32
     ensures { λ g. ⌜ g ≡ x / 4294967296 ⌝ }
 {
-    (x / 4294967296) as u8
+    (x / 4294967296) as u32
 }
 
 // No fault has number 0 or 1: they count as the first.
@@ -45,7 +44,7 @@ pub fn stop_of(x: u64) -> Stop
     }
 }
 
-fn answer(w: u32, g: u8) -> u64
+fn answer(w: u32, g: u32) -> u64
     ensures { λ x. ⌜ x ≡ w + 4294967296 * g ⌝ }
 {
     (w as u64) + 4294967296 * (g as u64)
@@ -53,22 +52,29 @@ fn answer(w: u32, g: u8) -> u64
 
 // ---- tags and places
 
-pub fn join(t: &[u16; 8466], a: u8, b: u8) -> u8
-    requires { ⌜ (a < 16) × (b < 16) × (joinIn (now t) a b < 256) ⌝ }
-    ensures { λ g. ⌜ g ≡ joinIn (now (t .entry)) a b ⌝ }
+// What is known of a parameter, and not of an array's element, is that it fits its type.
+fn wide(x: u16) -> u32
+    ensures { λ g. ⌜ g ≡ x ⌝ }
 {
-    t[8192 + 16 * (a as usize) + (b as usize)] as u8
+    x as u32
 }
 
-pub fn tag_at(u: &[u32; 4224], i: usize) -> u8
-    requires { ⌜ (i < 2112) × (getD (now u) (2112 + i) 0 < 256) ⌝ }
+pub fn join(t: &[u16; 8466], a: u32, b: u32) -> u32
+    requires { ⌜ (a < 16) × (b < 16) ⌝ }
+    ensures { λ g. ⌜ g ≡ joinIn (now (t .entry)) a b ⌝ }
+{
+    wide(t[8192 + 16 * (a as usize) + (b as usize)])
+}
+
+pub fn tag_at(u: &[u32; 4224], i: usize) -> u32
+    requires { ⌜ i < 2112 ⌝ }
     ensures { λ g. ⌜ g ≡ getD (now (u .entry)) (2112 + i) 0 ⌝ }
 {
-    u[2112 + i] as u8
+    u[2112 + i]
 }
 
 fn place(u: &[u32; 4224], i: usize) -> u64
-    requires { ⌜ (i < 2112) × (getD (now u) (2112 + i) 0 < 256) ⌝ }
+    requires { ⌜ i < 2112 ⌝ }
     ensures { λ x. ⌜ x ≡ answerOf (Valued.Value (placeIn (now (u .entry)) i)) ⌝ }
 {
     answer(u[i], tag_at(u, i))
@@ -78,7 +84,6 @@ fn place(u: &[u32; 4224], i: usize) -> u64
 
 // A word with the tag of x.
 fn one(w: u32, x: u64) -> u64
-    requires { ⌜ tagIn x < 256 ⌝ }
     ensures { λ z. ⌜ z ≡ w + 4294967296 * tagIn x ⌝ }
 {
     answer(w, tag_of(x))
@@ -86,7 +91,7 @@ fn one(w: u32, x: u64) -> u64
 
 // A word with the tags of x and y joined.
 fn both(t: &[u16; 8466], w: u32, x: u64, y: u64) -> u64
-    requires { ⌜ Joined (now t) (tagIn x) (tagIn y) ⌝ }
+    requires { ⌜ (tagIn x < 16) × (tagIn y < 16) ⌝ }
     ensures { λ z. ⌜ z ≡ w + 4294967296 * joinIn (now (t .entry)) (tagIn x) (tagIn y) ⌝ }
 {
     answer(w, join(t, tag_of(x), tag_of(y)))
@@ -104,7 +109,7 @@ fn cell(t: &[u16; 8466], u: &[u32; 4224], x: u64) -> u64
 }
 
 fn unary(k: u16, x: u64) -> u64
-    requires { ⌜ (2 ≤ k) × (k < 5) × (tagIn x < 256) ⌝ }
+    requires { ⌜ (2 ≤ k) × (k < 5) ⌝ }
     ensures { λ z. ⌜ z ≡ unaryIn k x ⌝ }
 {
     match k {
@@ -115,7 +120,7 @@ fn unary(k: u16, x: u64) -> u64
 }
 
 fn binary(t: &[u16; 8466], k: u16, x: u64, y: u64) -> u64
-    requires { ⌜ (5 ≤ k) × (k < 14) × Joined (now t) (tagIn x) (tagIn y) ⌝ }
+    requires { ⌜ (5 ≤ k) × (k < 14) × (tagIn x < 16) × (tagIn y < 16) ⌝ }
     ensures { λ z. ⌜ z ≡ binaryIn (now (t .entry)) k x y ⌝ }
 {
     let a = word_of(x);
@@ -153,20 +158,16 @@ fn operand(t: &[u16; 8466], u: &[u32; 4224], e: usize) -> u64
     if t[4 * e] == 0 {
         return place(u, t[4 * e + 1] as usize);
     }
-    value(t, u, e)
+    deep(t, u, e)
 }
 
 // Operands have lower numbers than their user, so the expression's own number falls.
-pub fn value(t: &[u16; 8466], u: &[u32; 4224], e: usize) -> u64
-    requires { ⌜ ExprGiven (now t) (now u) e ⌝ }
+fn deep(t: &[u16; 8466], u: &[u32; 4224], e: usize) -> u64
+    requires { ⌜ ExprGiven (now t) (now u) e × (0 < getD (now t) (4 * e) 0) ⌝ }
     ensures { λ x. ⌜ ((r p : List ℕ) → Ready r p (now (t .entry)) (now (u .entry)) → e < recipeOf r .exprs → x ≡ answerOf (valueIn r p (now (u .entry)) e)) ⌝ }
 {
     let k = t[4 * e];
-    let a = t[4 * e + 1] as usize;
-    if k == 0 {
-        return place(u, a);
-    }
-    let x = operand(t, u, a);
+    let x = operand(t, u, t[4 * e + 1] as usize);
     if FAULT <= x {
         return x;
     }
@@ -181,4 +182,30 @@ pub fn value(t: &[u16; 8466], u: &[u32; 4224], e: usize) -> u64
         return y;
     }
     binary(t, k, x, y)
+}
+
+// An operator on leaves is the common case: it is worked out here, with no recursion and so no registers to save.
+pub fn value(t: &[u16; 8466], u: &[u32; 4224], e: usize) -> u64
+    requires { ⌜ ExprGiven (now t) (now u) e ⌝ }
+    ensures { λ x. ⌜ ((r p : List ℕ) → Ready r p (now (t .entry)) (now (u .entry)) → e < recipeOf r .exprs → x ≡ answerOf (valueIn r p (now (u .entry)) e)) ⌝ }
+{
+    let k = t[4 * e];
+    let a = t[4 * e + 1] as usize;
+    if k == 0 {
+        return place(u, a);
+    }
+    if t[4 * a] == 0 {
+        let x = place(u, t[4 * a + 1] as usize);
+        if k == 1 {
+            return cell(t, u, x);
+        }
+        if k < 5 {
+            return unary(k, x);
+        }
+        let b = t[4 * e + 2] as usize;
+        if t[4 * b] == 0 {
+            return binary(t, k, x, place(u, t[4 * b + 1] as usize));
+        }
+    }
+    deep(t, u, e)
 }

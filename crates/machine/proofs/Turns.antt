@@ -1,5 +1,5 @@
 -- One turn of the loop is one step of the run. Assumes nothing.
-use Prim.Native.Nat.{ℕ, zero, suc, _+_, _-_, _*_, _^_, _<_, _≤_}
+use Prim.Native.Nat.{ℕ, zero, suc, _+_, _-_, _*_, _/_, _%_, _^_, _<_, _≤_}
 use native.Mathlib.Nat.{not-suc-le-zero}
 use native.Mathlib.Numerals.{add-one, sub-one}
 use native.Mathlib.Omega.{arith}
@@ -9,10 +9,11 @@ use mathlib.Core.List.{List, [], _∷_}
 use lib.ListN.{length, getD, set, length-set}
 use borrow.Author.Tests.{lt-ltb, le-ltb, le-leb, lt-leb}
 use Rattle.rules.specs.declared.Stop.{Stop}
-use Rattle.rules.specs.declared.Stop.the-variants.{Room, Frames}
+use Rattle.rules.specs.declared.Stop.the-variants.{EmitTag, Room, Frames}
 use Rattle.rules.specs.declared.Place.{Place}
 use Rattle.rules.specs.declared.Frame.{Frame}
 use Rattle.rules.specs.declared.Frame.the-variants.{Next, Join, Loop}
+use Rattle.rules.specs.declared.Waiting.{Waiting}
 use Rattle.rules.specs.declared.Waiting.the-variants.{Begin, Nothing}
 use Rattle.rules.specs.declared.Act.{Act}
 use Rattle.rules.specs.declared.Act.the-variants.{Passes, Pushes, Writes, Records, Stops}
@@ -20,25 +21,31 @@ use Rattle.rules.specs.declared.Again.{Again}
 use Rattle.rules.specs.declared.Again.the-variants.{Repeats, Leaves, Fails}
 use Rattle.rules.specs.declared.End.{End}
 use Rattle.rules.specs.declared.End.the-variants.{Done, Budget, Stopped}
-use Rattle.rules.specs.Bytes.{Bytes, byte}
 use Rattle.rules.specs.Policy.{Policy, policyOf}
 use Rattle.rules.specs.Recipe.{Recipe, recipeOf}
-use Rattle.rules.specs.Memory.{Memory, valueOf, tagOf, placeBytes, count, Record}
-use Rattle.rules.specs.Steps.{State, state, Turn, Goes, Halts, Finished, repeats, loopIn, check, performs, takes, step}
+use Rattle.rules.specs.Memory.{Memory, valueOf, tagOf, count, Record}
+use Rattle.rules.specs.declared.Stmt.{Stmt}
+use Rattle.rules.specs.declared.Stmt.the-variants.{Skip, Assign, Store, Then, If, While, Emit, BadStmt}
+use Rattle.rules.specs.Bytes.{byte}
+use Rattle.rules.specs.Accepted.{StmtOk, PortOk}
+use Rattle.layout.specs.Tables.{StmtAs}
+use Rattle.rules.specs.Steps.{State, state, Turn, Goes, Halts, Finished, eval, begins, Loops, loop-of, no-loop, tests, repeats, loopIn, check, performs, takes, step}
 use Rattle.rules.specs.Run.{Result, ends, follow, run, start}
 use Rattle.rules.specs.Judged.{outcomeOf, writtenBack}
-use Rattle.rules.proofs.Standing.{Sound, PlaceOk, PlacesOk, FrameOk, StandingIn, ActOk, pushes, writes, keeps-step, act-ok, standing-start}
+use Rattle.rules.proofs.Standing.{Standing, FrameOk, PlaceOk, ActOk, pushes, writes, keeps-step, act-ok, standing-start}
 use Rattle.rules.proofs.Reached.{standing-after}
 use Rattle.memory.specs.Layout.{recorded, Holds}
 use Rattle.memory.proofs.Records.{none-held, length-held, more-held}
 use Rattle.layout.specs.Places.{heldIn, Ready}
+use Rattle.layout.specs.Answers.{stopFrom}
 use Rattle.layout.proofs.Places.{held-length, held-write, sound-ready, places-ready, ready-write}
-use Rattle.steps.specs.Asks.{beginIn, againIn}
-use Rattle.machine.specs.declared.Taken.{Taken}
-use Rattle.machine.specs.declared.Taken.the-variants.{Keeps, Drops, Ends}
-use Rattle.machine.specs.Frames.{frameOf, framesOf, waitingOf, FrameSmall}
-use Rattle.machine.specs.Turns.{loopTaken, takeIn, FrameFits, LeftAs, RunAs}
-use Rattle.machine.proofs.Frames.{pushed, popped, frames-length, waits-next, waits-at}
+use Rattle.layout.proofs.Answers.{stop-back}
+use Rattle.rules.specs.Ends.{stopNumber}
+use Rattle.steps.specs.Asks as asks
+use Rattle.steps.proofs.Statements.{stmtFrom, stmt-is, stmt-ok, port-ok}
+use Rattle.machine.specs.Frames.{wordOf, Held, none, more}
+use Rattle.machine.specs.Turns.{RunAs}
+use Rattle.machine.proofs.Frames.{frames-length, pushed, Turned, at-stmt, at-top, by-stmt, Top, top-next, top-join, top-loop, top-none}
 
 -- ---- a run by its first step
 
@@ -59,7 +66,7 @@ module _ (P : Policy) (R : Recipe) (room : ℕ) where
   run-done (suc f) k x e = rw e
 
 -- with something left to do
-data Moves : Turn → Type 0 where
+pub data Moves : Turn → Type 0 where
   goes : {y : State} → Moves (Goes y)
   halts : {h : Stop} {s : ℕ} → Moves (Halts h s)
 
@@ -69,7 +76,7 @@ moves-check true h s k = k
 moves-check false h s k = halts
 
 module _ (R : Recipe) (room s b : ℕ) (l : List Frame) (m : Memory) (r : List Record) where
-  moves-performs : (x : Act) → Moves (performs R room s b l m r x)
+  pub moves-performs : (x : Act) → Moves (performs R room s b l m r x)
   moves-performs Passes = goes
   moves-performs (Pushes f a t) = moves-check _ _ _ goes
   moves-performs (Writes i p) = goes
@@ -81,7 +88,7 @@ module _ (R : Recipe) (room s b : ℕ) (l : List Frame) (m : Memory) (r : List R
   moves-takes t Leaves = goes
   moves-takes t (Fails h) = halts
 
-moves-frame : (P : Policy) (R : Recipe) (room b : ℕ) (f : Frame) (l : List Frame) (m : Memory) (r : List Record)
+pub moves-frame : (P : Policy) (R : Recipe) (room b : ℕ) (f : Frame) (l : List Frame) (m : Memory) (r : List Record)
     → Moves (step P R room (state b Nothing (f ∷ l) m r))
 moves-frame P R room b (Next a) l m r = goes
 moves-frame P R room b (Join t) l m r = goes
@@ -92,100 +99,139 @@ unfolding follow
 run-spent P R room k x goes = refl
 run-spent P R room k x halts = refl
 
--- ---- a frame by what taking it asks
+not-zero : (h : Stop) → stopNumber h ≡ 0 → ⊥
+unfolding stopNumber
+not-zero Stop.AssignTag e = omega arith
+not-zero Stop.StoreTag e = omega arith
+not-zero EmitTag e = omega arith
+not-zero Stop.Index e = omega arith
+not-zero Stop.Divisor e = omega arith
+not-zero Room e = omega arith
+not-zero Frames e = omega arith
 
-module _ (r p u : List ℕ) (room tag : ℕ) (l : List Frame) (q : List Record) where
-  abbrev leads : Frame → Taken → Turn
-  leads f (Keeps a v) = Goes (state v (Begin a) (f ∷ l) (heldIn (recipeOf r) u) q)
-  leads f (Drops a v) = Goes (state v (waitingOf a) l (heldIn (recipeOf r) u) q)
-  leads f (Ends h s) = Halts h s
+-- with a kind that is not the empty word's, something is left to do
+moves-now : (P : Policy) (R : Recipe) (room tag : ℕ) (m : Memory) (c : List Record) {t st : List ℕ} {d kind s : ℕ} {w : Waiting} {l : List Frame}
+    → Turned t st d kind s w → Held st d l → (kind ≡ 10 → ⊥) → Moves (step P R room (state tag w l m c))
+moves-now P R room tag m c {s = s} (at-stmt e) h n = moves-performs R room s tag _ m c (begins P R m tag s (R .stmtAt s))
+moves-now P R room tag m c (at-top e f) (none b) n = absurd (n (omega arith))
+moves-now P R room tag m c (at-top e f) (more x b h) n = moves-frame P R room tag x _ m c
 
-  by-again : (s g : ℕ) (z : Again) → takes (recipeOf r) room s tag l (heldIn (recipeOf r) u) q g z ≡ leads (Loop s g) (loopTaken s g z)
-  unfolding waitingOf
-  by-again s g (Repeats a v) = refl
-  by-again s g Leaves = refl
-  by-again s g (Fails h) = refl
+-- ---- a loop's statement by its fields
 
-  by-frame : (f : Frame) → step (policyOf p) (recipeOf r) room (state tag Nothing (f ∷ l) (heldIn (recipeOf r) u) q) ≡ leads f (takeIn r p u tag f)
-  unfolding waitingOf
-  by-frame (Next a) = rw (waits-next a)
-  by-frame (Join g) = refl
-  by-frame (Loop s g) = by-again s g (againIn r p u tag s)
+abbrev Looping : Loops → Type 0
+Looping (loop-of c b) = Unit {0}
+Looping no-loop = ⊥
+
+not-looping : {c b : ℕ} → no-loop ≡ loop-of c b → ⊥
+not-looping e = subst Looping (sym e) tt
+
+while-as : {t : List ℕ} {s c b : ℕ} (x : Stmt) → StmtAs t s x → loopIn x ≡ loop-of c b → x ≡ While (getD t (4096 + 4 * s + 1) 0) (getD t (4096 + 4 * s + 2) 0)
+while-as Skip h k = absurd (not-looping k)
+while-as (Assign x e) h k = absurd (not-looping k)
+while-as (Store i e) h k = absurd (not-looping k)
+while-as (Then a c) h k = absurd (not-looping k)
+while-as (If e a c) h k = absurd (not-looping k)
+while-as (While e a) h k = rw (h .first, h .second)
+while-as (Emit port e) h k = absurd (not-looping k)
+while-as BadStmt h k = absurd (not-looping k)
+
+-- ---- kinds
+
+pub lower : {i s n : ℕ} → s < n → i < s → i < n
+lower h l = omega arith
+
+past : (k n : ℕ) → k ≤ n → (n ≡ k → ⊥) → k + 1 ≤ n
+past k n h ne = omega arith
+
+-- none of the kinds 0 to 9
+pub last-kind : {n : ℕ} → (n ≡ 0 → ⊥) → (n ≡ 1 → ⊥) → (n ≡ 2 → ⊥) → (n ≡ 3 → ⊥) → (n ≡ 4 → ⊥) → (n ≡ 5 → ⊥) → (n ≡ 6 → ⊥) → (n ≡ 7 → ⊥) → (n ≡ 8 → ⊥) → (n ≡ 9 → ⊥) → 9 < n
+last-kind {n} a b c d e f g h i j =
+    past 9 n (past 8 n (past 7 n (past 6 n (past 5 n (past 4 n (past 3 n (past 2 n (past 1 n (past 0 n (omega arith) a) b) c) d) e) f) g) h) i) j
+
+-- ---- states by their parts
+
+step-at : (P : Policy) (R : Recipe) (room tag : ℕ) (m : Memory) (c : List Record) {w w′ : Waiting} {l l′ : List Frame} → w ≡ w′ → l ≡ l′
+    → step P R room (state tag w l m c) ≡ step P R room (state tag w′ l′ m c)
+step-at P R room tag m c {w′ = w′} {l = l} e f = ap (λ x. step P R room (state tag x l m c)) e ∙ ap (λ x. step P R room (state tag w′ x m c)) f
+
+goes-as : {m : Memory} {c : List Record} {b b′ : ℕ} {w w′ : Waiting} {l l′ : List Frame} → b ≡ b′ → w ≡ w′ → l ≡ l′
+    → Goes (state b w l m c) ≡ Goes (state b′ w′ l′ m c)
+goes-as e f h = rw (e, f, h)
 
 -- ---- what the loop holds
-
--- the state in the loop's places, stack, depth, next statement and branch tag
-abbrev pub stateOf : (r u st : List ℕ) (d at tag : ℕ) → List Record → State
-stateOf r u st d at tag s = state tag (waitingOf at) (framesOf st d) (heldIn (recipeOf r) u) s
 
 -- the whole run, from the places in u₀
 abbrev whole : (r p u₀ q₀ : List ℕ) (B : ℕ) → Result
 whole r p u₀ q₀ B = run (policyOf p) (recipeOf r) (length q₀) B 0 (start (recipeOf r) (heldIn (recipeOf r) u₀))
 
 -- what is left to run from the state that the loop holds is the whole run
-pub record Stands (r p t u₀ q₀ u q st : List ℕ) (B n k d at tag : ℕ) : Type 0 where
+pub record Stands (r p t u₀ q₀ u q st : List ℕ) (B left k d kind s tag : ℕ) : Type 0 where
   pub ready : Ready r p t u
   pub records : List Record
   pub held : Holds q₀ q records k
-  pub few : k ≤ n
-  pub within : n ≤ B
-  pub size : length st ≡ 512
+  pub few : k + left ≤ B
+  pub size : length st ≡ 513
   pub all-places : length u ≡ 4224
   pub same-room : length q ≡ length q₀
-  pub standing : StandingIn (policyOf p) (recipeOf r) (length q₀) (stateOf r u st d at tag records)
-  pub rest : whole r p u₀ q₀ B ≡ run (policyOf p) (recipeOf r) (length q₀) (B - n) n (stateOf r u st d at tag records)
-
-fits : (r p : List ℕ) (f : Frame) → FrameOk (policyOf p) (recipeOf r) f → FrameFits r p f
-fits r p (Next a) h = h
-fits r p (Join t) h = h
-fits r p (Loop s t) h = (h .0, h .1)
+  pub waiting : Waiting
+  pub frames : List Frame
+  pub stack : Held st d frames
+  pub turned : Turned t st d kind s waiting
+  pub standing : Standing (policyOf p) (recipeOf r) (length q₀) tag waiting frames (heldIn (recipeOf r) u) records
+  pub rest : whole r p u₀ q₀ B ≡ run (policyOf p) (recipeOf r) (length q₀) left (B - left) (state tag waiting frames (heldIn (recipeOf r) u) records)
 
 -- the loop's state as it is first
-pub starts : {r p t u q st : List ℕ} {B at : ℕ} → Ready r p t u → length u ≡ 4224 → length st ≡ 512 → at ≡ recipeOf r .stmts
-    → Stands r p t u q u q st B 0 0 0 at 0
-unfolding framesOf
-starts {r} {p} {t} {u} {q} {st} {B} {at} a all size e =
+pub starts : {r p t u q st : List ℕ} {B kind s : ℕ} → Ready r p t u → length u ≡ 4224 → length st ≡ 513 → getD st 0 0 ≡ 81920
+    → s ≡ recipeOf r .stmts - 1 → kind ≡ getD t (4096 + 4 * s) 0 → Stands r p t u q u q st B B 0 0 kind s 0
+starts {r} {p} {t} {u} {q} {st} {B} {kind} {s} a all size low e k =
     let R = recipeOf r in
-    let z : B - 0 ≡ B = omega arith in
-    let w = waits-at (R .stmts) (a .recipe .counts .some-stmt) in
+    let z : B - B ≡ 0 = omega arith in
     record {
       ready = a;
       records = [];
       held = none-held q;
       few = omega arith;
-      within = omega arith;
       size = size;
       all-places = all;
       same-room = refl;
-      standing = rw (e, w) (standing-start (sound-ready a) (length q) (heldIn R u) (held-length u 0 (count R)) (places-ready a));
-      rest = rw (z, e, w);
+      waiting = Begin s;
+      frames = [];
+      stack = none low;
+      turned = at-stmt k;
+      standing = rw e (standing-start (sound-ready a) (length q) (heldIn R u) (held-length u 0 (count R)) (places-ready a));
+      rest = rw (z, e);
     }
 
-module _ {r p t u₀ q₀ u q st : List ℕ} {B n k d at tag : ℕ} (g : Stands r p t u₀ q₀ u q st B n k d at tag) where
+module _ {r p t u₀ q₀ u q st : List ℕ} {B left k d kind s tag : ℕ} (g : Stands r p t u₀ q₀ u q st B left k d kind s tag) where
+  abbrev P : Policy
+  P = policyOf p
+
+  abbrev R : Recipe
+  R = recipeOf r
+
+  abbrev pub held-now : Memory
+  held-now = heldIn R u
+
+  abbrev pub branch-now : ℕ
+  branch-now = tag
+
   abbrev now : State
-  now = stateOf r u st d at tag (g .records)
+  now = state tag (g .waiting) (g .frames) (heldIn R u) (g .records)
 
   abbrev stepped : Turn
-  stepped = step (policyOf p) (recipeOf r) (length q₀) now
+  stepped = step P R (length q₀) now
 
   -- ---- bounds
 
-  pub depth-below : d ≤ recipeOf r .stmts
-  depth-below = rw (frames-length st d) at (g .standing .depth)
+  pub depth-below : d ≤ R .stmts
+  depth-below = rw (frames-length (g .stack)) at (g .standing .depth)
 
-  pub next-below : 0 < at → at - 1 < recipeOf r .stmts
-  next-below h = rw (waits-at at h) at (g .standing .waiting)
-
-  top-ok : 0 < d → FrameOk (policyOf p) (recipeOf r) (frameOf (getD st (d - 1) 0))
-  top-ok h = (rw (popped st d h) at (g .standing .frames)) .0
-
-  pub top-fits : 0 < d → {f : Frame} → f ≡ frameOf (getD st (d - 1) 0) → FrameFits r p f
-  top-fits h e = rw e (fits r p (frameOf (getD st (d - 1) 0)) (top-ok h))
+  pub branch-low : tag < 16
+  branch-low = omega (arith, g .standing .branch, g .ready .policy .few-tags)
 
   -- ---- ends
 
-  ended : {e : End} {n′ : ℕ} → run (policyOf p) (recipeOf r) (length q₀) (B - n) n now ≡ ends e n′ now
-      → RunAs r p t u₀ q₀ B (outcomeOf e n′ k) u q
+  ended : {e : End} {n : ℕ} → run P R (length q₀) left (B - left) now ≡ ends e n now → RunAs r p t u₀ q₀ B (outcomeOf e n k) u q
   unfolding writtenBack
   ended e =
       record {
@@ -193,144 +239,222 @@ module _ {r p t u₀ q₀ u q st : List ℕ} {B n k d at tag : ℕ} (g : Stands 
         ready = g .ready;
       }
 
-  pub done : at ≡ 0 → d ≡ 0 → RunAs r p t u₀ q₀ B (outcomeOf Done n k) u q
-  unfolding waitingOf framesOf
-  done x y = ended (run-done (policyOf p) (recipeOf r) (length q₀) (B - n) n now (rw (x, y)))
+  done : 9 < kind → RunAs r p t u₀ q₀ B (outcomeOf Done (B - left) k) u q
+  done h =
+      let z = top-none (g .ready) (g .standing .waiting) (g .turned) (g .stack) (g .standing .frames) h in
+      ended (run-done P R (length q₀) left (B - left) now (rw (z .0, z .1)))
 
-  spent : B ≤ n → Moves stepped → RunAs r p t u₀ q₀ B (outcomeOf Budget n k) u q
-  spent h w =
-      let z : B - n ≡ 0 = omega arith in
-      ended (rw z (run-spent (policyOf p) (recipeOf r) (length q₀) n now w))
+  module _ (z : left ≡ 0) where
+    all-spent : B - left ≡ B
+    all-spent = omega arith
 
-  pub spent-next : 0 < at → B ≤ n → RunAs r p t u₀ q₀ B (outcomeOf Budget n k) u q
-  spent-next x h = spent h (rw (waits-at at x) (moves-performs (recipeOf r) (length q₀) (at - 1) tag (framesOf st d) (heldIn (recipeOf r) u) (g .records) (beginIn r p u tag (at - 1))))
+    pub done-spent : 9 < kind → RunAs r p t u₀ q₀ B (outcomeOf Done B k) u q
+    done-spent h = subst (λ n. RunAs r p t u₀ q₀ B (outcomeOf Done n k) u q) all-spent (done h)
 
-  pub spent-frame : at ≡ 0 → 0 < d → B ≤ n → RunAs r p t u₀ q₀ B (outcomeOf Budget n k) u q
-  unfolding waitingOf
-  spent-frame x y h = spent h (rw (x, popped st d y) (moves-frame (policyOf p) (recipeOf r) (length q₀) tag (frameOf (getD st (d - 1) 0)) (framesOf st (d - 1)) (heldIn (recipeOf r) u) (g .records)))
+    pub spent : (kind ≡ 10 → ⊥) → RunAs r p t u₀ q₀ B (outcomeOf Budget B k) u q
+    spent n =
+        subst (λ n. RunAs r p t u₀ q₀ B (outcomeOf Budget n k) u q) all-spent
+        (ended (rw z (run-spent P R (length q₀) (B - 0) now (moves-now P R (length q₀) tag (heldIn R u) (g .records) (g .turned) (g .stack) n))))
 
-  module _ (less : n < B) where
-    stopped : {h : Stop} {s : ℕ} → stepped ≡ Halts h s → RunAs r p t u₀ q₀ B (outcomeOf (Stopped h s) (n + 1) k) u q
-    stopped e = ended (run-stop (policyOf p) (recipeOf r) (length q₀) (B - n) n now (omega arith) e)
+  module _ (less : 0 < left) where
+    pub halted : {h : Stop} {i : ℕ} → stepped ≡ Halts h i → RunAs r p t u₀ q₀ B (outcomeOf (Stopped h i) (B - (left - 1)) k) u q
+    halted e =
+        let z : B - left + 1 ≡ B - (left - 1) = omega (arith, g .few) in
+        rw (← z) (ended (run-stop P R (length q₀) left (B - left) now less e))
+
+    pub done-late : 9 < kind → RunAs r p t u₀ q₀ B (outcomeOf Done (B - (left - 1) - 1) k) u q
+    done-late h =
+        let z : B - (left - 1) - 1 ≡ B - left = omega (arith, g .few) in
+        rw z (done h)
 
     -- ---- the next turn
 
-    moved : {u′ q′ st′ : List ℕ} {k′ d′ at′ tag′ : ℕ} {s : List Record}
-        → stepped ≡ Goes (stateOf r u′ st′ d′ at′ tag′ s)
-        → Holds q₀ q′ s k′ → k′ ≤ n + 1 → length st′ ≡ 512 → length u′ ≡ 4224 → Ready r p t u′
-        → Stands r p t u₀ q₀ u′ q′ st′ B (n + 1) k′ d′ at′ tag′
-    moved {s = s} e h few size all ready =
-        let z : B - n - 1 ≡ B - (n + 1) = omega arith in
+    pub moved : {u′ q′ st′ : List ℕ} {k′ d′ kind′ s′ tag′ : ℕ} {w′ : Waiting} {l′ : List Frame} {c : List Record}
+        → stepped ≡ Goes (state tag′ w′ l′ (heldIn R u′) c)
+        → Holds q₀ q′ c k′ → k′ ≤ k + 1 → length st′ ≡ 513 → length u′ ≡ 4224 → Ready r p t u′ → Held st′ d′ l′ → Turned t st′ d′ kind′ s′ w′
+        → Stands r p t u₀ q₀ u′ q′ st′ B (left - 1) k′ d′ kind′ s′ tag′
+    moved {w′ = w′} {l′ = l′} {c = c} e h few size all ready stack turned =
+        let z : B - left + 1 ≡ B - (left - 1) = omega (arith, g .few) in
         let after = standing-after (keeps-step (sound-ready (g .ready)) (length q₀) now (g .standing)) e in
         record {
           ready = ready;
-          records = s;
+          records = c;
           held = h;
-          few = few;
-          within = omega arith;
+          few = omega (arith, g .few);
           size = size;
           all-places = all;
           same-room = length-held h (rw (h .counted) at (after .fits));
+          waiting = w′;
+          frames = l′;
+          stack = stack;
+          turned = turned;
           standing = after;
-          rest = g .rest ∙ run-go (policyOf p) (recipeOf r) (length q₀) (B - n) n now (omega arith) e ∙ rw z;
+          rest = g .rest ∙ run-go P R (length q₀) left (B - left) now less e ∙ rw z;
         }
+
+    -- the places, the records and the stack stay
+    pub stays : {kind′ s′ tag′ d′ : ℕ} {w′ : Waiting} {l′ : List Frame} → stepped ≡ Goes (state tag′ w′ l′ (heldIn R u) (g .records))
+        → Held st d′ l′ → Turned t st d′ kind′ s′ w′ → Stands r p t u₀ q₀ u q st B (left - 1) k d′ kind′ s′ tag′
+    stays e stack turned = moved e (g .held) (omega arith) (g .size) (g .all-places) (g .ready) stack turned
+
+    -- a statement asks a
+    module _ {a : Act} (asked : stepped ≡ performs R (length q₀) s tag (g .frames) (heldIn R u) (g .records) a) where
+      pub passes-on : a ≡ Passes → {kind′ s′ : ℕ} → kind′ ≡ getD st d 0 / 8192 → s′ ≡ getD st d 0 / 16 % 512
+          → Stands r p t u₀ q₀ u q st B (left - 1) k d kind′ s′ tag
+      passes-on e x y = stays (rw e at asked) (g .stack) (at-top x y)
+
+      pub stops-at : {h : Stop} → a ≡ Stops h → RunAs r p t u₀ q₀ B (outcomeOf (Stopped h s) (B - (left - 1)) k) u q
+      stops-at e = halted (rw e at asked)
+
+      module _ {f : Frame} {n b : ℕ} (e : a ≡ Pushes f n b) where
+        pub pushes-on : {w kind′ s′ tag′ : ℕ} → d < R .stmts → w ≡ wordOf f → s′ ≡ n → tag′ ≡ b → kind′ ≡ getD t (4096 + 4 * s′) 0
+            → Stands r p t u₀ q₀ u q (set st (d + 1) w) B (left - 1) k (d + 1) kind′ s′ tag′
+        unfolding check
+        pushes-on {w} l j i h x =
+            moved ((rw (e, frames-length (g .stack), lt-ltb d (R .stmts) l) at asked) ∙ rw (i, h))
+            (g .held) (omega arith) (length-set st (d + 1) w ∙ g .size) (g .all-places) (g .ready)
+            (pushed (g .stack) f w j (omega (arith, g .size, l, g .ready .recipe .counts .few-stmts))) (at-stmt x)
+
+        pub full : R .stmts ≤ d → RunAs r p t u₀ q₀ B (outcomeOf (Stopped Frames s) (B - (left - 1)) k) u q
+        unfolding check
+        full l = halted (rw (e, frames-length (g .stack), le-ltb d (R .stmts) l) at asked)
+
+      module _ {port w : ℕ} (e : a ≡ Records port w) where
+        pub records-on : 5 * k + 5 ≤ length q₀ → {kind′ s′ : ℕ} → kind′ ≡ getD st d 0 / 8192 → s′ ≡ getD st d 0 / 16 % 512
+            → Stands r p t u₀ q₀ u (recorded q (5 * k) port w) st B (left - 1) (k + 1) d kind′ s′ tag
+        unfolding check
+        records-on l x y =
+            moved (rw (e, g .held .counted, le-leb (5 * k + 5) (length q₀) l) at asked)
+            (more-held port w (g .held) l) (omega arith) (g .size) (g .all-places) (g .ready) (g .stack) (at-top x y)
+
+        pub no-room : length q₀ < 5 * k + 5 → RunAs r p t u₀ q₀ B (outcomeOf (Stopped Room s) (B - (left - 1)) k) u q
+        unfolding check
+        no-room l = halted (rw (e, g .held .counted, lt-leb (5 * k + 5) (length q₀) l) at asked)
+
+    -- a statement asked a, and steps did it
+    module _ {h : ℕ} {u′ : List ℕ} where
+      pub wrote-on : (a : Act) → stepped ≡ performs R (length q₀) s tag (g .frames) (heldIn R u) (g .records) a → ActOk P R a → asks.Done a h u u′ → h ≡ 0
+          → {kind′ s′ : ℕ} → kind′ ≡ getD st d 0 / 8192 → s′ ≡ getD st d 0 / 16 % 512 → Stands r p t u₀ q₀ u′ q st B (left - 1) k d kind′ s′ tag
+      unfolding valueOf tagOf
+      wrote-on Passes e ok did z x y = absurd did
+      wrote-on (Pushes f n b) e ok did z x y = absurd did
+      wrote-on (Writes i v) e (writes l fine) did z x y =
+          let w = held-write R (g .ready .recipe .counts) u (g .all-places) i (v .value) (v .tag) l in
+          moved (e ∙ rw (did .1, w)) (g .held) (omega arith) (g .size)
+          (rw (did .1) (length-set (set u i (v .value)) (2112 + i) (v .tag) ∙ length-set u i (v .value) ∙ g .all-places))
+          (rw (did .1) (ready-write (g .ready) (g .all-places) i (v .value) (v .tag) l (fine .word) (fine .good)))
+          (g .stack) (at-top x y)
+      wrote-on (Records port v) e ok did z x y = absurd did
+      wrote-on (Stops n) e ok did z x y = absurd (not-zero n (sym (did .0) ∙ z))
+
+      pub refused : (a : Act) → stepped ≡ performs R (length q₀) s tag (g .frames) (heldIn R u) (g .records) a → asks.Done a h u u′ → (h ≡ 0 → ⊥)
+          → RunAs r p t u₀ q₀ B (outcomeOf (Stopped (stopFrom h) s) (B - (left - 1)) k) u′ q
+      refused Passes e did n = absurd did
+      refused (Pushes f m b) e did n = absurd did
+      refused (Writes i v) e did n = absurd (n (did .0))
+      refused (Records port v) e did n = absurd did
+      refused (Stops x) e did n = rw (did .0, did .1, stop-back x) (halted e)
 
     -- ---- a statement is begun
 
-    module _ (x : 0 < at) {a : Act} (asked : a ≡ beginIn r p u tag (at - 1)) where
-      begun : stepped ≡ performs (recipeOf r) (length q₀) (at - 1) tag (framesOf st d) (heldIn (recipeOf r) u) (g .records) a
-      begun = rw (waits-at at x, asked)
+    module _ {c : ℕ} (low : c < 7) (e : kind ≡ c) where
+      here : (g .waiting ≡ Begin s) × (kind ≡ getD t (4096 + 4 * s) 0)
+      here = by-stmt (g .turned) (g .stack) (omega arith)
 
-      act-fits : ActOk (policyOf p) (recipeOf r) a
-      act-fits = rw asked (act-ok (sound-ready (g .ready)) (next-below x) (g .standing .branch) (g .standing .places))
+      pub there : s < R .stmts
+      there = rw (here .0) at (g .standing .waiting)
 
-      pub passes-on : a ≡ Passes → Stands r p t u₀ q₀ u q st B (n + 1) k d 0 tag
-      unfolding waitingOf
-      passes-on e = moved (rw e at begun) (g .held) (omega (arith, g .few)) (g .size) (g .all-places) (g .ready)
+      kind-as : getD t (4096 + 4 * s) 0 ≡ c
+      kind-as = sym (here .1) ∙ e
 
-      pub stops-begun : {h : Stop} → a ≡ Stops h → RunAs r p t u₀ q₀ B (outcomeOf (Stopped h (at - 1)) (n + 1) k) u q
-      stops-begun e = stopped (rw e at begun)
+      abbrev pub named : ℕ → ℕ
+      named i = getD t (4096 + 4 * s + i) 0
 
-      module _ {f : Frame} {a′ b′ : ℕ} (e : a ≡ Pushes f a′ b′) where
-        pub push-fits : FrameFits r p f
-        push-fits = of-act (subst (ActOk (policyOf p) (recipeOf r)) e act-fits)
-          where
-            of-act : ActOk (policyOf p) (recipeOf r) (Pushes f a′ b′) → FrameFits r p f
-            of-act (pushes f h l u) = fits r p f h
+      -- what the statement asks
+      abbrev pub asks-now : Act
+      asks-now = begins P R (heldIn R u) tag s (stmtFrom c (named 1) (named 2) (named 3))
 
-        pub push-small : FrameSmall f
-        push-small = small f push-fits
-          where
-            small : (f : Frame) → FrameFits r p f → FrameSmall f
-            small (Next s) h = omega (arith, h, g .ready .recipe .counts .few-stmts)
-            small (Join v) h = omega (arith, h, g .ready .policy .few-tags)
-            small (Loop s v) h = (omega (arith, h .0, g .ready .recipe .counts .few-stmts), omega (arith, h .1, g .ready .policy .few-tags))
+      pub begun : stepped ≡ performs R (length q₀) s tag (g .frames) (heldIn R u) (g .records) (begins P R (heldIn R u) tag s (stmtFrom c (named 1) (named 2) (named 3)))
+      begun = rw (here .0, stmt-is (g .ready) there kind-as)
 
-        pub push-below : a′ < recipeOf r .stmts
-        push-below = of-act (subst (ActOk (policyOf p) (recipeOf r)) e act-fits)
-          where
-            of-act : ActOk (policyOf p) (recipeOf r) (Pushes f a′ b′) → a′ < recipeOf r .stmts
-            of-act (pushes f h l u) = l
+      pub act-fits : ActOk P R (begins P R (heldIn R u) tag s (stmtFrom c (named 1) (named 2) (named 3)))
+      act-fits = rw (stmt-is (g .ready) there kind-as) at (act-ok (sound-ready (g .ready)) there (g .standing .branch) (g .standing .places))
 
-        pub pushes-on : (w : ℕ) → d < recipeOf r .stmts → frameOf w ≡ f → Stands r p t u₀ q₀ u q (set st d w) B (n + 1) k (d + 1) (a′ + 1) b′
-        unfolding check
-        pushes-on w l j =
-            moved ((rw (e, frames-length st d, lt-ltb d (recipeOf r .stmts) l) at begun) ∙ rw (waits-next a′, pushed st d w (omega (arith, g .size, g .ready .recipe .counts .few-stmts)), j))
-            (g .held) (omega (arith, g .few)) (length-set st d w ∙ g .size) (g .all-places) (g .ready)
+      pub fails-with : {h : Stop} → begins P R (heldIn R u) tag s (stmtFrom c (named 1) (named 2) (named 3)) ≡ Stops h
+          → RunAs r p t u₀ q₀ B (outcomeOf (Stopped h s) (B - (left - 1)) k) u q
+      fails-with e = stops-at begun e
 
-        pub full : recipeOf r .stmts ≤ d → RunAs r p t u₀ q₀ B (outcomeOf (Stopped Frames (at - 1)) (n + 1) k) u q
-        unfolding check
-        full l = stopped (rw (e, frames-length st d, le-ltb d (recipeOf r .stmts) l) at begun)
+      pub names : StmtOk (R .vars) (R .exprs) s (stmtFrom c (named 1) (named 2) (named 3))
+      names = stmt-ok (g .ready) there kind-as
 
-      module _ {i : ℕ} {v : Place} (e : a ≡ Writes i v) where
-        pub write-below : i < count (recipeOf r)
-        write-below = of-act (subst (ActOk (policyOf p) (recipeOf r)) e act-fits)
-          where
-            of-act : ActOk (policyOf p) (recipeOf r) (Writes i v) → i < count (recipeOf r)
-            of-act (writes l h) = l
-
-        write-ok : PlaceOk (policyOf p) v
-        write-ok = of-act (subst (ActOk (policyOf p) (recipeOf r)) e act-fits)
-          where
-            of-act : ActOk (policyOf p) (recipeOf r) (Writes i v) → PlaceOk (policyOf p) v
-            of-act (writes l h) = h
-
-        pub writes-on : Stands r p t u₀ q₀ (set (set u i (v .value)) (2112 + i) (v .tag)) q st B (n + 1) k d 0 tag
-        unfolding waitingOf valueOf tagOf
-        writes-on =
-            let now-written = held-write (recipeOf r) (g .ready .recipe .counts) u (g .all-places) i (v .value) (v .tag) write-below in
-            moved (rw now-written (rw e at begun))
-            (g .held) (omega (arith, g .few)) (g .size)
-            (length-set (set u i (v .value)) (2112 + i) (v .tag) ∙ length-set u i (v .value) ∙ g .all-places)
-            (ready-write (g .ready) (g .all-places) i (v .value) (v .tag) write-below (write-ok .word) (write-ok .good))
-
-      module _ {port w : ℕ} (e : a ≡ Records port w) where
-        pub records-on : 5 * k + 5 ≤ length q₀ → Stands r p t u₀ q₀ u (recorded q (5 * k) port w) st B (n + 1) (k + 1) d 0 tag
-        unfolding waitingOf check
-        records-on l =
-            moved (rw (e, g .held .counted, le-leb (5 * k + 5) (length q₀) l) at begun)
-            (more-held port w (g .held) l) (omega (arith, g .few)) (g .size) (g .all-places) (g .ready)
-
-        pub no-room : length q₀ < 5 * k + 5 → RunAs r p t u₀ q₀ B (outcomeOf (Stopped Room (at - 1)) (n + 1) k) u q
-        unfolding check
-        no-room l = stopped (rw (e, g .held .counted, lt-leb (5 * k + 5) (length q₀) l) at begun)
+      pub port-names : PortOk (byte p 7) (stmtFrom c (named 1) (named 2) (named 3))
+      port-names = port-ok (g .ready) there kind-as
 
     -- ---- a frame is taken
 
-    module _ (x : at ≡ 0) (y : 0 < d) where
-      module _ {f : Frame} {z : Taken} (j : f ≡ frameOf (getD st (d - 1) 0)) (asked : z ≡ takeIn r p u tag f) where
-        took : stepped ≡ leads r p u (length q₀) tag (framesOf st (d - 1)) (g .records) f z
-        unfolding waitingOf
-        took = rw (x, popped st d y, asked, ← j) (by-frame r p u (length q₀) tag (framesOf st (d - 1)) (g .records) f)
+    next-top : kind ≡ 7 → Top (g .ready) st d (g .waiting) (g .frames) (Next s)
+    next-top e = top-next (g .ready) (g .standing .waiting) (g .turned) (g .stack) (g .standing .frames) e
 
-        pub keeps-on : {a v : ℕ} → z ≡ Keeps a v → Stands r p t u₀ q₀ u q st B (n + 1) k d (a + 1) v
-        keeps-on {a} e = moved ((rw e at took) ∙ rw (waits-next a, popped st d y, j)) (g .held) (omega (arith, g .few)) (g .size) (g .all-places) (g .ready)
+    pub next-some : kind ≡ 7 → 0 < d
+    next-some e = next-top e .some
 
-        pub keeps-below : {a v : ℕ} → z ≡ Keeps a v → a < recipeOf r .stmts
-        keeps-below {a} e = rw (waits-next a) at (keeps-on e .standing .waiting)
+    pub next-there : kind ≡ 7 → s < R .stmts
+    next-there e = (rw (next-top e .frames-are) at (g .standing .frames)) .0
 
-        pub drops-on : {a v : ℕ} → z ≡ Drops a v → Stands r p t u₀ q₀ u q st B (n + 1) k (d - 1) a v
-        drops-on e = moved (rw e at took) (g .held) (omega (arith, g .few)) (g .size) (g .all-places) (g .ready)
+    pub next-on : kind ≡ 7 → {kind′ : ℕ} → kind′ ≡ getD t (4096 + 4 * s) 0 → Stands r p t u₀ q₀ u q st B (left - 1) k (d - 1) kind′ s tag
+    next-on e x =
+        let z = next-top e in
+        stays (step-at P R (length q₀) tag (heldIn R u) (g .records) (z .waits) (z .frames-are)) (z .below) (at-stmt x)
 
-        pub stops-taken : {h : Stop} {s : ℕ} → z ≡ Ends h s → RunAs r p t u₀ q₀ B (outcomeOf (Stopped h s) (n + 1) k) u q
-        stops-taken e = stopped (rw e at took)
+    join-top : kind ≡ 8 → Top (g .ready) st d (g .waiting) (g .frames) (Join (getD st d 0 % 16))
+    join-top e = top-join (g .ready) (g .standing .waiting) (g .turned) (g .stack) (g .standing .frames) e
+
+    pub join-some : kind ≡ 8 → 0 < d
+    join-some e = join-top e .some
+
+    pub join-on : kind ≡ 8 → {kind′ s′ tag′ : ℕ} → tag′ ≡ getD st d 0 % 16 → kind′ ≡ getD st (d - 1) 0 / 8192 → s′ ≡ getD st (d - 1) 0 / 16 % 512
+        → Stands r p t u₀ q₀ u q st B (left - 1) k (d - 1) kind′ s′ tag′
+    join-on e h x y =
+        let z = join-top e in
+        stays (step-at P R (length q₀) tag (heldIn R u) (g .records) (z .waits) (z .frames-are) ∙ goes-as (sym h) refl refl) (z .below) (at-top x y)
+
+    module _ (e : kind ≡ 9) where
+      top : Top (g .ready) st d (g .waiting) (g .frames) (Loop s (getD st d 0 % 16))
+      top = top-loop (g .ready) (g .standing .waiting) (g .turned) (g .stack) (g .standing .frames) e
+
+      pub some : 0 < d
+      some = top .some
+
+      frame-fine : FrameOk P R (Loop s (getD st d 0 % 16))
+      frame-fine = (rw (top .frames-are) at (g .standing .frames)) .0
+
+      pub loop-there : s < R .stmts
+      loop-there = frame-fine .0
+
+      abbrev pub test-at : ℕ
+      test-at = getD t (4096 + 4 * s + 1) 0
+
+      abbrev pub body-at : ℕ
+      body-at = getD t (4096 + 4 * s + 2) 0
+
+      is-while : R .stmtAt s ≡ While test-at body-at
+      is-while = while-as (R .stmtAt s) (g .ready .decoded .stmts-as s loop-there) (frame-fine .2 .there)
+
+      pub loop-names : (test-at < R .exprs) × (body-at < s)
+      loop-names = rw is-while at (g .ready .recipe .ordered .stmts-ok s loop-there)
+
+      took : stepped ≡ takes R (length q₀) s tag (top .rest) (heldIn R u) (g .records) (getD st d 0 % 16) (tests P R (heldIn R u) tag body-at (eval P R (heldIn R u) test-at))
+      took = step-at P R (length q₀) tag (heldIn R u) (g .records) (top .waits) (top .frames-are) ∙ ap (λ x. takes R (length q₀) s tag (top .rest) (heldIn R u) (g .records) (getD st d 0 % 16) (repeats P R (heldIn R u) tag (loopIn x))) is-while
+
+      pub repeats-on : {b : ℕ} → tests P R (heldIn R u) tag body-at (eval P R (heldIn R u) test-at) ≡ Repeats body-at b
+          → {kind′ s′ tag′ : ℕ} → s′ ≡ body-at → tag′ ≡ b → kind′ ≡ getD t (4096 + 4 * s′) 0 → Stands r p t u₀ q₀ u q st B (left - 1) k d kind′ s′ tag′
+      repeats-on a i h x = stays ((rw a at took) ∙ goes-as (sym h) (ap Begin (sym i)) (sym (top .frames-are))) (g .stack) (at-stmt x)
+
+      pub leaves-on : tests P R (heldIn R u) tag body-at (eval P R (heldIn R u) test-at) ≡ Leaves
+          → {kind′ s′ tag′ : ℕ} → tag′ ≡ getD st d 0 % 16 → kind′ ≡ getD st (d - 1) 0 / 8192 → s′ ≡ getD st (d - 1) 0 / 16 % 512
+          → Stands r p t u₀ q₀ u q st B (left - 1) k (d - 1) kind′ s′ tag′
+      leaves-on a h x y = stays ((rw a at took) ∙ goes-as (sym h) refl refl) (top .below) (at-top x y)
+
+      pub fails-at : {h : Stop} → tests P R (heldIn R u) tag body-at (eval P R (heldIn R u) test-at) ≡ Fails h
+          → RunAs r p t u₀ q₀ B (outcomeOf (Stopped h s) (B - (left - 1)) k) u q
+      fails-at a = halted (rw a at took)

@@ -1,28 +1,17 @@
--- How the run keeps frames and the statement to begin. Assumes nothing.
-use Prim.Native.Nat.{ℕ, zero, suc, _/_, _%_, _<_}
+-- How the run holds frames: one word each, 8192 kind + 16 statement + tag, above an empty word. Assumes nothing.
+use Prim.Native.Nat.{ℕ, zero, suc, _+_, _*_}
+use mathlib.Core.Path.{_≡_}
 use mathlib.Core.List.{List, [], _∷_}
 use lib.ListN.{getD}
 use Rattle.rules.specs.declared.Frame.{Frame}
 use Rattle.rules.specs.declared.Frame.the-variants.{Next, Join, Loop}
-use Rattle.rules.specs.declared.Waiting.{Waiting}
-use Rattle.rules.specs.declared.Waiting.the-variants.{Begin, Nothing}
 
--- a frame word: kind + 4 * tag + 64 * statement
-unfoldable pub frameOf : ℕ → Frame
-frameOf w = getD (Next (w / 64) ∷ Join (w / 4 % 16) ∷ []) (w % 4) (Loop (w / 64) (w / 4 % 16))
+abbrev pub wordOf : Frame → ℕ
+wordOf (Next a) = 8192 * 7 + 16 * a + 0
+wordOf (Join t) = 8192 * 8 + 16 * 0 + t
+wordOf (Loop s t) = 8192 * 9 + 16 * s + t
 
--- the frames held in the first words of an array, the top first
-unfoldable pub framesOf : List ℕ → (depth : ℕ) → List Frame
-framesOf st zero = []
-framesOf st (suc d) = frameOf (getD st d 0) ∷ framesOf st d
-
--- the statement to begin is kept as its number and one, and 0 where none waits
-unfoldable pub waitingOf : ℕ → Waiting
-waitingOf zero = Nothing
-waitingOf (suc s) = Begin s
-
--- its numbers fit a frame word
-abbrev pub FrameSmall : Frame → Type 0
-FrameSmall (Next s) = s < 512
-FrameSmall (Join t) = t < 16
-FrameSmall (Loop s t) = (s < 512) × (t < 16)
+-- the words up to d hold these frames, the top first
+pub data Held (st : List ℕ) : (d : ℕ) → List Frame → Type 0 where
+  none : getD st 0 0 ≡ 81920 → Held st 0 []
+  more : {d : ℕ} {l : List Frame} (f : Frame) → getD st (suc d) 0 ≡ wordOf f → Held st d l → Held st (suc d) (f ∷ l)

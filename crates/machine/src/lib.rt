@@ -1,185 +1,244 @@
 // The run of accepted tables, and the library's entry, which checks everything and runs.
 ghost use mathlib.Core.Path.{_≡_};
 ghost use mathlib.Core.List.{List};
-ghost use Prim.Native.Nat.{ℕ, _+_, _*_, _<_, _≤_};
-ghost use lib.ListN.{length, set};
-ghost use Rattle.rules.specs.Bytes.{byte};
+ghost use Prim.Native.Nat.{ℕ, _+_, _*_, _/_, _%_, _<_, _≤_};
+ghost use lib.ListN.{length, getD};
 ghost use Rattle.rules.specs.Recipe.{recipeOf};
 ghost use Rattle.rules.specs.Judged.{outcomeOf, writtenBack, ran, checks, judged};
 ghost use Rattle.rules.specs.Accepted.{Accepted};
 ghost use Rattle.layout.specs.Places.{Ready};
-ghost use Rattle.machine.specs.Frames.{frameOf, FrameSmall};
-ghost use Rattle.machine.specs.Turns.{loopTaken, takeIn, FrameFits, LeftAs, FrameGiven, RunGiven, RunAs};
-use rules::Act;
-use rules::Again;
+ghost use Rattle.machine.specs.Turns.{LeftAs, RunGiven, RunAs};
 use rules::Checked;
 use rules::End;
-use rules::Frame;
 use rules::Outcome;
-use rules::Place;
 use rules::Refusal;
 use rules::Stop;
 
-// What taking the top frame asks: a statement to begin, with the frame kept; the frame dropped, with the statement to begin
-// as its number and one, 0 where none waits; the end of the run at a statement.
-pub enum Taken {
-    Keeps(usize, u8),
-    Drops(usize, u8),
-    Ends(Stop, usize),
-}
+const FAULT: u64 = 9223372036854775808;
 
-// The stack's words. What changes at every step stands beside it in locals, so that it stays in registers.
+// The kinds of frames, beside the statements' kinds 0 to 6.
+const NEXT: u32 = 7;
+
+const JOIN: u32 = 8;
+
+const LOOP: u32 = 9;
+
+const EMPTY: u32 = 81920;
+
+// The stack's words; under the frames lies an empty word, which ends the run when it is taken.
 pub struct State {
-    pub stack: [u32; 512],
+    pub stack: [u32; 513],
 }
 
 // ---- frames
 
-fn word_of(f: Frame) -> u32
-    requires { ⌜ FrameSmall f ⌝ }
-    ensures { λ w. ⌜ frameOf w ≡ f ⌝ }
+fn frame_word(kind: u32, s: usize, tag: u32) -> u32
+    requires { ⌜ (kind < 16) × (s < 512) × (tag < 16) ⌝ }
+    ensures { λ w. ⌜ w ≡ 8192 * kind + 16 * s + tag ⌝ }
 {
-    match f {
-        Frame::Next(s) => 64 * (s as u32),
-        Frame::Join(t) => 1 + 4 * (t as u32),
-        Frame::Loop(s, t) => 2 + 4 * (t as u32) + 64 * (s as u32),
-    }
+    8192 * kind + 16 * (s as u32) + tag
 }
 
-fn loop_taken(s: usize, t: u8, a: Again) -> Taken
-    ensures { λ k. ⌜ k ≡ loopTaken s t a ⌝ }
+fn kind_in(w: u32) -> usize
+    ensures { λ k. ⌜ k ≡ w / 8192 ⌝ }
 {
-    match a {
-        Again::Repeats(next, u) => Taken::Keeps(next, u),
-        Again::Leaves => Taken::Drops(0, t),
-        Again::Fails(h) => Taken::Ends(h, s),
-    }
+    (w / 8192) as usize
 }
 
-// A frame word is taken apart here and nowhere else.
-fn take(t: &[u16; 8466], u: &[u32; 4224], w: u32, tag: u8) -> Taken
-    requires { ⌜ FrameGiven (now t) (now u) (frameOf w) tag ⌝ }
-    ensures { λ k. ⌜ ((r p : List ℕ) → Ready r p (now (t .entry)) (now (u .entry)) → tag < byte p 6 → FrameFits r p (frameOf w) → k ≡ takeIn r p (now (u .entry)) tag (frameOf w)) ⌝ }
+fn stmt_in(w: u32) -> usize
+    ensures { λ s. ⌜ s ≡ w / 16 % 512 ⌝ }
 {
-    let s = (w / 64) as usize;
-    let g = (w / 4 % 16) as u8;
-    match w % 4 {
-        0 => Taken::Drops(s + 1, tag),
-        1 => Taken::Drops(0, g),
-        _ => loop_taken(s, g, steps::again(t, u, s, tag)),
+    (w / 16 % 512) as usize
+}
+
+// ---- statements by their numbers
+
+fn kind_at(t: &[u16; 8466], s: usize) -> usize
+    requires { ⌜ (s < 512) × (getD (now t) (4096 + 4 * s) 0 < 65536) ⌝ }
+    ensures { λ k. ⌜ k ≡ getD (now (t .entry)) (4096 + 4 * s) 0 ⌝ }
+{
+    t[4096 + 4 * s] as usize
+}
+
+fn named(t: &[u16; 8466], s: usize, i: usize) -> usize
+    requires { ⌜ (s < 512) × (i < 4) × (getD (now t) (4096 + 4 * s + i) 0 < 65536) ⌝ }
+    ensures { λ n. ⌜ n ≡ getD (now (t .entry)) (4096 + 4 * s + i) 0 ⌝ }
+{
+    t[4096 + 4 * s + i] as usize
+}
+
+fn stopped(h: Stop, s: usize, steps: u32, records: u32) -> Outcome
+    ensures { λ o. ⌜ o ≡ outcomeOf (End.Stopped h s) steps records ⌝ }
+{
+    Outcome {
+        end: End::Stopped(h, s),
+        steps: steps,
+        records: records,
     }
 }
 
 // ---- the run
 
-fn put_place(u: &mut [u32; 4224], i: usize, v: Place)
-    requires { ⌜ i < 2112 ⌝ }
-    ensures { λ _. ⌜ now (u .exit) ≡ set (set (now (u .entry)) i (v .value)) (2112 + i) (v .tag) ⌝ }
-{
-    u[i] = v.value;
-    u[2112 + i] = v.tag as u32;
-}
-
-// One loop over a state by value: the stack is never copied, and only here is anything changed.
+// One turn of the loop is one step. kind and s say what is done next: statement s of that kind is begun, or the top frame of
+// that kind, which names s, is taken.
 fn run(t: &[u16; 8466], u: &mut [u32; 4224], limit: usize, q: &mut [u8], budget: u32) -> Outcome
     requires { ⌜ RunGiven (now t) (now u) limit ⌝ }
     ensures { λ o. ⌜ ((r p : List ℕ) → Ready r p (now (t .entry)) (now (u .entry)) → limit ≡ recipeOf r .stmts → RunAs r p (now (t .entry)) (now (u .entry)) (now (q .entry)) budget o (now (u .exit)) (now (q .exit))) ⌝ }
 {
-    let mut x = State { stack: [0u32; 512] };
+    let mut x = State {
+        stack: [EMPTY; 513],
+    };
     let mut depth: usize = 0;
-    let mut at: usize = limit;
-    let mut tag: u8 = 0;
-    let mut steps: u32 = 0;
+    let mut s: usize = limit - 1;
+    let mut kind: usize = kind_at(t, s);
+    let mut tag: u32 = 0;
+    let mut left: u32 = budget;
     let mut records: u32 = 0;
     loop {
-        if at == 0 {
-            if depth == 0 {
+        if left == 0 {
+            if kind == 10 {
                 return Outcome {
                     end: End::Done,
-                    steps: steps,
+                    steps: budget,
                     records: records,
                 };
             }
-            if budget <= steps {
-                return Outcome {
-                    end: End::Budget,
-                    steps: steps,
-                    records: records,
-                };
+            return Outcome {
+                end: End::Budget,
+                steps: budget,
+                records: records,
+            };
+        }
+        left = left - 1;
+        match kind {
+            0 => {
+                let w = x.stack[depth];
+                kind = kind_in(w);
+                s = stmt_in(w);
             }
-            steps = steps + 1;
-            let w = x.stack[depth - 1];
-            let k = take(t, u, w, tag);
-            match k {
-                Taken::Keeps(next, g) => {
-                    at = next + 1;
-                    tag = g;
+            1 => {
+                let v = eval::value(t, u, named(t, s, 2));
+                if FAULT <= v {
+                    return stopped(eval::stop_of(v), s, budget - left, records);
                 }
-                Taken::Drops(next, g) => {
+                let h = steps::assign(t, u, tag, named(t, s, 1), v);
+                if h != 0 {
+                    return stopped(eval::stop_of(FAULT + (h as u64)), s, budget - left, records);
+                }
+                let w = x.stack[depth];
+                kind = kind_in(w);
+                s = stmt_in(w);
+            }
+            2 => {
+                let h = steps::store(t, u, tag, named(t, s, 1), named(t, s, 2));
+                if h != 0 {
+                    return stopped(eval::stop_of(FAULT + (h as u64)), s, budget - left, records);
+                }
+                let w = x.stack[depth];
+                kind = kind_in(w);
+                s = stmt_in(w);
+            }
+            3 => {
+                if limit <= depth {
+                    return stopped(Stop::Frames, s, budget - left, records);
+                }
+                depth = depth + 1;
+                x.stack[depth] = frame_word(NEXT, named(t, s, 2), 0);
+                s = named(t, s, 1);
+                kind = kind_at(t, s);
+            }
+            4 => {
+                let v = eval::value(t, u, named(t, s, 1));
+                if FAULT <= v {
+                    return stopped(eval::stop_of(v), s, budget - left, records);
+                }
+                if limit <= depth {
+                    return stopped(Stop::Frames, s, budget - left, records);
+                }
+                depth = depth + 1;
+                x.stack[depth] = frame_word(JOIN, 0, tag);
+                tag = eval::join(t, tag, eval::tag_of(v));
+                if eval::word_of(v) == 0 {
+                    s = named(t, s, 3);
+                    kind = kind_at(t, s);
+                    continue;
+                }
+                s = named(t, s, 2);
+                kind = kind_at(t, s);
+            }
+            5 => {
+                let v = eval::value(t, u, named(t, s, 1));
+                if FAULT <= v {
+                    return stopped(eval::stop_of(v), s, budget - left, records);
+                }
+                if eval::word_of(v) == 0 {
+                    let w = x.stack[depth];
+                    kind = kind_in(w);
+                    s = stmt_in(w);
+                    continue;
+                }
+                if limit <= depth {
+                    return stopped(Stop::Frames, s, budget - left, records);
+                }
+                depth = depth + 1;
+                x.stack[depth] = frame_word(LOOP, s, tag);
+                tag = eval::join(t, tag, eval::tag_of(v));
+                s = named(t, s, 2);
+                kind = kind_at(t, s);
+            }
+            6 => {
+                let v = eval::value(t, u, named(t, s, 1));
+                if FAULT <= v {
+                    return stopped(eval::stop_of(v), s, budget - left, records);
+                }
+                let port = named(t, s, 2);
+                if !steps::may_emit(t, tag, port, v) {
+                    return stopped(Stop::EmitTag, s, budget - left, records);
+                }
+                let o = 5 * (records as usize);
+                if q.len() < o + 5 {
+                    return stopped(Stop::Room, s, budget - left, records);
+                }
+                memory::put_record(q, o, port as u8, eval::word_of(v));
+                records = records + 1;
+                let w = x.stack[depth];
+                kind = kind_in(w);
+                s = stmt_in(w);
+            }
+            7 => {
+                depth = depth - 1;
+                kind = kind_at(t, s);
+            }
+            8 => {
+                tag = x.stack[depth] % 16;
+                depth = depth - 1;
+                let w = x.stack[depth];
+                kind = kind_in(w);
+                s = stmt_in(w);
+            }
+            9 => {
+                let v = eval::value(t, u, named(t, s, 1));
+                if FAULT <= v {
+                    return stopped(eval::stop_of(v), s, budget - left, records);
+                }
+                if eval::word_of(v) == 0 {
+                    tag = x.stack[depth] % 16;
                     depth = depth - 1;
-                    at = next;
-                    tag = g;
+                    let w = x.stack[depth];
+                    kind = kind_in(w);
+                    s = stmt_in(w);
+                    continue;
                 }
-                Taken::Ends(h, s) => {
-                    return Outcome {
-                        end: End::Stopped(h, s),
-                        steps: steps,
-                        records: records,
-                    };
-                }
+                tag = eval::join(t, tag, eval::tag_of(v));
+                s = named(t, s, 2);
+                kind = kind_at(t, s);
             }
-        } else {
-            if budget <= steps {
+            _ => {
                 return Outcome {
-                    end: End::Budget,
-                    steps: steps,
+                    end: End::Done,
+                    steps: budget - left - 1,
                     records: records,
                 };
-            }
-            steps = steps + 1;
-            let s = at - 1;
-            let a = steps::begin(t, u, s, tag);
-            match a {
-                Act::Passes => {
-                    at = 0;
-                }
-                Act::Pushes(f, next, g) => {
-                    if limit <= depth {
-                        return Outcome {
-                            end: End::Stopped(Stop::Frames, s),
-                            steps: steps,
-                            records: records,
-                        };
-                    }
-                    x.stack[depth] = word_of(f);
-                    depth = depth + 1;
-                    at = next + 1;
-                    tag = g;
-                }
-                Act::Writes(i, v) => {
-                    put_place(u, i, v);
-                    at = 0;
-                }
-                Act::Records(port, w) => {
-                    let o = 5 * (records as usize);
-                    if q.len() < o + 5 {
-                        return Outcome {
-                            end: End::Stopped(Stop::Room, s),
-                            steps: steps,
-                            records: records,
-                        };
-                    }
-                    memory::put_record(q, o, port, w);
-                    records = records + 1;
-                    at = 0;
-                }
-                Act::Stops(h) => {
-                    return Outcome {
-                        end: End::Stopped(h, s),
-                        steps: steps,
-                        records: records,
-                    };
-                }
             }
         }
     }

@@ -1,5 +1,5 @@
--- How what is asked follows from answers, tags and tests on the decoded tables. Assumes nothing.
-use Prim.Native.Nat.{ℕ, zero, suc, _+_, _-_, _/_, _<_, _≤_}
+-- How what is done follows from answers, tags and tests on the decoded tables. Assumes nothing.
+use Prim.Native.Nat.{ℕ, zero, suc, _+_, _-_, _/_, _%_, _^_, _<_, _≤_}
 use native.Mathlib.Omega.{arith}
 use mathlib.Core.Path.{_≡_, refl, sym, ap, _∙_}
 use mathlib.Core.Bool.{true, false}
@@ -7,6 +7,7 @@ use mathlib.Core.List.{List}
 use lib.Dec.{ltb}
 use lib.ListN.{getD}
 use borrow.Author.Tests.{le-ltb, lt-ltb}
+use Rattle.rules.specs.declared.Stop.{Stop}
 use Rattle.rules.specs.declared.Place.{Place}
 use Rattle.rules.specs.declared.Valued.{Valued}
 use Rattle.rules.specs.declared.Valued.the-variants.{Value, Fault}
@@ -15,14 +16,15 @@ use Rattle.rules.specs.Policy.{Policy, policyOf, under}
 use Rattle.rules.specs.Recipe.{recipeOf}
 use Rattle.rules.specs.Memory.{_#_, valueOf, tagOf, placeAt, count}
 use Rattle.rules.specs.Steps.{test}
-use Rattle.rules.proofs.Standing.{proper}
+use Rattle.rules.specs.Ends.{stopNumber}
+use Rattle.rules.proofs.Standing.{Proper, fault, value, proper}
 use Rattle.rules.proofs.Tags.{is-under, under-is}
 use Rattle.rules.proofs.Tests.{fails}
 use Rattle.layout.specs.Tables.{joinIn}
 use Rattle.layout.specs.Places.{Ready, heldIn, valueIn}
 use Rattle.layout.specs.Answers.{answerOf, stopFrom}
 use Rattle.layout.proofs.Places.{sound-ready, places-ready, place-held}
-use Rattle.layout.proofs.Answers.{Answer, answers, worth, failed}
+use Rattle.layout.proofs.Answers.{Answer, answers, worth, failed, stop-below}
 use Rattle.steps.specs.Asks.{worthOf}
 
 -- ---- answers
@@ -36,13 +38,31 @@ module _ {P : Policy} {x : ℕ} where
   found (worth {p = p} l v g k) h = ap Value (place-is p v g)
   found (failed l e) h = absurd (omega arith)
 
-  lost : {o : Valued} → Answer P x o → 9223372036854775808 ≤ x → o ≡ Fault (stopFrom (x - 9223372036854775808))
-  lost (worth l v g k) h = absurd (omega arith)
-  lost (failed l e) h = rw e
+  faulted : {o : Valued} → Answer P x o → 9223372036854775808 ≤ x → o ≡ Fault (stopFrom (x - 9223372036854775808))
+  faulted (worth l v g k) h = absurd (omega arith)
+  faulted (failed l e) h = rw e
 
   tagged : {o : Valued} → Answer P x o → x < 9223372036854775808 → x / 4294967296 < P .tags
   tagged (worth l v g k) h = rw g (k .good)
   tagged (failed l e) h = absurd (omega arith)
+
+-- the answer x stands for a fault, whose number is its word
+pub record Lost (x : ℕ) (o : Valued) : Type 0 where
+  pub stop : Stop
+  pub is : o ≡ Fault stop
+  pub number : x % 4294967296 ≡ stopNumber stop
+
+lost : {P : Policy} → P .tags ≤ 16 → {o : Valued} → Proper P o → {x : ℕ} → x ≡ answerOf o → 9223372036854775808 ≤ x → Lost x o
+lost few (value k) e l = absurd (omega (arith, k .good, k .word))
+lost few (fault {h}) e l = record { stop = h; is = refl; number = omega (arith, stop-below h) }
+
+-- a place is read back from its answer
+module _ (q : Place) {v : ℕ} (l : valueOf q < 2 ^ 32) (e : v ≡ answerOf (Value q)) where
+  pub word-is : v % 4294967296 ≡ valueOf q
+  word-is = omega arith
+
+  pub tag-is : v / 4294967296 ≡ tagOf q
+  tag-is = omega arith
 
 -- what evaluating expression e answered
 abbrev Answered : (t u : List ℕ) (e x : ℕ) → Type 0
@@ -50,14 +70,20 @@ Answered t u e x = (r p : List ℕ) → Ready r p t u → e < recipeOf r .exprs 
 
 module _ {r p t u : List ℕ} (a : Ready r p t u) where
   module _ {e : ℕ} (h : e < recipeOf r .exprs) {x : ℕ} (q : Answered t u e x) where
+    valued : Proper (policyOf p) (valueIn r p u e)
+    valued = proper (sound-ready a) (places-ready a) e
+
     answer : Answer (policyOf p) x (valueIn r p u e)
-    answer = answers (a .policy .few-tags) (proper (sound-ready a) (places-ready a) e) (q r p a h)
+    answer = answers (a .policy .few-tags) valued (q r p a h)
 
     pub value-found : x < 9223372036854775808 → valueIn r p u e ≡ Value (worthOf x)
     value-found = found answer
 
-    pub value-lost : 9223372036854775808 ≤ x → valueIn r p u e ≡ Fault (stopFrom (x - 9223372036854775808))
-    value-lost = lost answer
+    pub value-lost : 9223372036854775808 ≤ x → Lost x (valueIn r p u e)
+    value-lost = lost (a .policy .few-tags) valued (q r p a h)
+
+    pub value-fault : 9223372036854775808 ≤ x → valueIn r p u e ≡ Fault (stopFrom (x - 9223372036854775808))
+    value-fault = faulted answer
 
     pub tag-found : x < 9223372036854775808 → x / 4294967296 < byte p 6
     tag-found = tagged answer
@@ -67,10 +93,10 @@ module _ {r p t u : List ℕ} (a : Ready r p t u) where
   pub var-in : {i : ℕ} → i < recipeOf r .vars → i < count (recipeOf r)
   var-in h = omega arith
 
-  pub held-given : {i : ℕ} → i < count (recipeOf r) → (i < 2112) × (getD u (2112 + i) 0 < 256)
-  held-given {i} h =
+  pub held-given : {i : ℕ} → i < count (recipeOf r) → i < 2112
+  held-given h =
       let few = a .recipe .counts in
-      (omega (arith, few .few-vars, few .few-cells), omega (arith, a .tags-below i h, a .policy .few-tags))
+      omega (arith, few .few-vars, few .few-cells)
 
   module _ {w n : ℕ} (q : w ≡ n) where
     pub index-off : getD t 8465 0 ≤ w → ltb n (recipeOf r .cells) ≡ false
@@ -88,18 +114,15 @@ module _ {r p t u : List ℕ} (a : Ready r p t u) where
 
   -- ---- tags
 
-  pub byte-low : {b : ℕ} → b < byte p 6 → b < 256
-  byte-low h = omega (arith, a .policy .few-tags)
-
-  pub held-good : {i g : ℕ} → i < count (recipeOf r) → g ≡ getD u (2112 + i) 0 → g < byte p 6
-  held-good {i} h q = rw q (a .tags-below i h)
-
   module _ {port : ℕ} (h : port < byte p 7) where
     pub clearance-is : getD t (8448 + port) 0 ≡ policyOf p .clearance port
     clearance-is = a .decoded .clearances-as port h
 
     pub clearance-good : getD t (8448 + port) 0 < byte p 6
     clearance-good = rw clearance-is (sound-ready a .lawful .clearance-below port)
+
+  pub held-good : {i g : ℕ} → i < count (recipeOf r) → g ≡ getD u (2112 + i) 0 → g < byte p 6
+  held-good {i} h q = rw q (a .tags-below i h)
 
   module _ {b g : ℕ} (hb : b < byte p 6) (hg : g < byte p 6) where
     join-as : joinIn t b g ≡ policyOf p .join b g
@@ -108,8 +131,8 @@ module _ {r p t u : List ℕ} (a : Ready r p t u) where
     join-low : joinIn t b g < byte p 6
     join-low = rw join-as (sound-ready a .lawful .join-below b g hb hg)
 
-    pub join-given : (b < 16) × (g < 16) × (joinIn t b g < 256)
-    join-given = (omega (arith, a .policy .few-tags), omega (arith, a .policy .few-tags), byte-low join-low)
+    pub join-given : (b < 16) × (g < 16)
+    join-given = (omega (arith, a .policy .few-tags), omega (arith, a .policy .few-tags))
 
     module _ {j : ℕ} (q : j ≡ joinIn t b g) where
       pub join-is : j ≡ policyOf p .join b g

@@ -16,7 +16,7 @@ use Rattle.layout.specs.Places.{Ready}
 abbrev pub stmtFrom : (k a b c : ℕ) → Stmt
 stmtFrom k a b c = getD (Skip ∷ Assign a b ∷ Store a b ∷ Then a b ∷ If a b c ∷ While a b ∷ Emit b a ∷ []) k BadStmt
 
-back : (v n s : ℕ) (x : Stmt) → StmtOk v n s x → stmtFrom (kindOf x) (firstOf x) (secondOf x) (thirdOf x) ≡ x
+pub back : (v n s : ℕ) (x : Stmt) → StmtOk v n s x → stmtFrom (kindOf x) (firstOf x) (secondOf x) (thirdOf x) ≡ x
 back v n s Skip h = refl
 back v n s (Assign x e) h = refl
 back v n s (Store i e) h = refl
@@ -26,7 +26,7 @@ back v n s (While e a) h = refl
 back v n s (Emit port e) h = refl
 back v n s BadStmt h = absurd h
 
-kind-below : (x : Stmt) → kindOf x < 7
+pub kind-below : (x : Stmt) → kindOf x < 7
 kind-below Skip = omega arith
 kind-below (Assign x e) = omega arith
 kind-below (Store i e) = omega arith
@@ -42,7 +42,7 @@ pub record Small (x : Stmt) : Type 0 where
   pub second : secondOf x < 65536
   pub third : thirdOf x < 65536
 
-small : {v e s n : ℕ} → v ≤ 64 → e ≤ 1024 → s < 512 → n ≤ 16 → (x : Stmt) → StmtOk v e s x → PortOk n x → Small x
+pub small : {v e s n : ℕ} → v ≤ 64 → e ≤ 1024 → s < 512 → n ≤ 16 → (x : Stmt) → StmtOk v e s x → PortOk n x → Small x
 small lv le ls ln Skip h k = record { first = omega arith; second = omega arith; third = omega arith }
 small lv le ls ln (Assign x e) h k = record { first = omega arith; second = omega arith; third = omega arith }
 small lv le ls ln (Store i e) h k = record { first = omega arith; second = omega arith; third = omega arith }
@@ -52,7 +52,7 @@ small lv le ls ln (While e a) h k = record { first = omega arith; second = omega
 small lv le ls ln (Emit port e) h k = record { first = omega arith; second = omega arith; third = omega arith }
 small lv le ls ln BadStmt h k = absurd h
 
-loopless : (x : Stmt) → (kindOf x ≡ 5 → ⊥) → loopIn x ≡ no-loop
+pub loopless : (x : Stmt) → (kindOf x ≡ 5 → ⊥) → loopIn x ≡ no-loop
 loopless Skip h = refl
 loopless (Assign x e) h = refl
 loopless (Store i e) h = refl
@@ -63,16 +63,16 @@ loopless (Emit port e) h = refl
 loopless BadStmt h = refl
 
 module _ {r p t u : List ℕ} (ready : Ready r p t u) {s : ℕ} (l : s < recipeOf r .stmts) where
-  decoded-as : StmtAs t s (recipeOf r .stmtAt s)
+  pub decoded-as : StmtAs t s (recipeOf r .stmtAt s)
   decoded-as = ready .decoded .stmts-as s l
 
-  abbrev field : ℕ → ℕ
+  abbrev pub field : ℕ → ℕ
   field i = getD t (4096 + 4 * s + i) 0
 
   pub not-loop : (getD t (4096 + 4 * s) 0 ≡ 5 → ⊥) → loopIn (recipeOf r .stmtAt s) ≡ no-loop
   not-loop n = loopless (recipeOf r .stmtAt s) (λ e. n (decoded-as .kind ∙ e))
 
-  fields : Small (recipeOf r .stmtAt s)
+  pub fields : Small (recipeOf r .stmtAt s)
   fields =
       let few = ready .recipe .counts in
       small (few .few-vars) (few .few-exprs) (omega (arith, few .few-stmts)) (ready .policy .few-ports) (recipeOf r .stmtAt s)

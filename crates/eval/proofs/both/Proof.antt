@@ -10,7 +10,7 @@ tag-of-requires-2 : tie.Need-tag-of-requires-2
 tag-of-requires-2 c κs = search needs
 
 join-requires : tie.Need-join-requires
-join-requires c κs = rw (c .before .tag-of .ensures, c .tag-of2 .ensures) (c .before .before .pre .left, c .before .before .pre .right, c .before .before .pre .tag)
+join-requires c κs = rw (c .before .tag-of .ensures, c .tag-of2 .ensures) (c .before .before .pre)
 
 answer-requires : tie.Need-answer-requires
 answer-requires c κs = search needs

@@ -49,13 +49,13 @@ element-copy-out-answer : tie.Need-element-copy-out-answer
 element-copy-out-answer c = let l : wordIn (c .before .before .before .before .before .args .x) < getD (c .before .before .before .before .before .args .t .now) 8465 0 = omega (arith, c .before .before .before .word-of .ensures, c .before .before .if1 .left) in omega (arith, c .before .before .before .before .before .pre .inside l, c .word-of2 .ensures)
 
 tag-at-requires : tie.Need-tag-at-requires
-tag-at-requires c κs = let l : wordIn (c .before .before .before .before .before .before .args .x) < getD (c .before .before .before .before .before .before .args .t .now) 8465 0 = omega (arith, c .before .before .before .before .word-of .ensures, c .before .before .before .if1 .left) in rw (c .before .word-of2 .ensures) (c .before .before .before .before .before .before .pre .inside l, omega (arith, c .before .before .before .before .before .before .pre .tags l .left))
+tag-at-requires c κs = let l : wordIn (c .before .before .before .before .before .before .args .x) < getD (c .before .before .before .before .before .before .args .t .now) 8465 0 = omega (arith, c .before .before .before .before .word-of .ensures, c .before .before .before .if1 .left) in rw (c .before .word-of2 .ensures) (c .before .before .before .before .before .before .pre .inside l)
 
 tag-of-requires : tie.Need-tag-of-requires
-tag-of-requires c κs = let l : wordIn (c .before .before .before .before .before .before .before .args .x) < getD (c .before .before .before .before .before .before .before .args .t .now) 8465 0 = omega (arith, c .before .before .before .before .before .word-of .ensures, c .before .before .before .before .if1 .left) in omega (arith, c .before .before .before .before .before .before .before .pre .tags l .right)
+tag-of-requires c κs = search needs
 
 join-requires : tie.Need-join-requires
-join-requires c κs = let l : wordIn (c .before .before .before .before .before .before .before .before .args .x) < getD (c .before .before .before .before .before .before .before .before .args .t .now) 8465 0 = omega (arith, c .before .before .before .before .before .before .word-of .ensures, c .before .before .before .before .before .if1 .left) in rw (c .before .tag-at .ensures, c .tag-of .ensures, c .before .before .before .word-of2 .ensures) (c .before .before .before .before .before .before .before .before .pre .tags l .left, c .before .before .before .before .before .before .before .before .pre .tags l .right, c .before .before .before .before .before .before .before .before .pre .tags l .tag)
+join-requires c κs = let l : wordIn (c .before .before .before .before .before .before .before .before .args .x) < getD (c .before .before .before .before .before .before .before .before .args .t .now) 8465 0 = omega (arith, c .before .before .before .before .before .before .word-of .ensures, c .before .before .before .before .before .if1 .left) in rw (c .before .tag-at .ensures, c .tag-of .ensures, c .before .before .before .word-of2 .ensures) (c .before .before .before .before .before .before .before .before .pre .tags l .0, c .before .before .before .before .before .before .before .before .pre .tags l .1)
 
 answer-requires : tie.Need-answer-requires
 answer-requires c κs = search needs
