@@ -1,8 +1,8 @@
 //! The recipe machine in safe Rust, written to be fast.
 //!
-//! As in plain.c the tables are decoded once while they are checked, leaves
+//! As in threaded.c the tables are decoded once while they are checked, leaves
 //! share one array of places, a tag is the set of the tags that it lies under,
-//! so that a join is one AND (plain.c says why that is exact), and a statement
+//! so that a join is one AND (threaded.c says why that is exact), and a statement
 //! holds the function that begins it, chosen by its kind and by the shape of
 //! its expression. These functions call each other in tail position, so the
 //! state of the run stays in argument registers.
