@@ -49,17 +49,10 @@ pub record Ready (r p t u : List ℕ) : Type 0 where
 abbrev pub valueIn : (r p u : List ℕ) → ℕ → Valued
 valueIn r p u e = eval (policyOf p) (recipeOf r) (heldIn (recipeOf r) u) e
 
--- ---- what a function may be asked: there are accepted tables that t and u hold
+-- there are accepted tables that t and u hold, and e is one of their expressions
 
 pub record ExprGiven (t u : List ℕ) (e : ℕ) : Type 0 where
   pub recipe : List ℕ
   pub policy : List ℕ
   pub ready : Ready recipe policy t u
   pub there : e < recipeOf recipe .exprs
-
-pub record StmtGiven (t u : List ℕ) (s b : ℕ) : Type 0 where
-  pub recipe : List ℕ
-  pub policy : List ℕ
-  pub ready : Ready recipe policy t u
-  pub there : s < recipeOf recipe .stmts
-  pub branch : b < byte policy 6

@@ -5,7 +5,6 @@ use denote.Ref.{now}
 use Rattle.policy.proofs.check_policy.Reads as check-policy
 use Rattle.policy.proofs.clearance.Reads as clearance
 use Rattle.policy.proofs.house_policy.Reads as house-policy
-use Rattle.policy.proofs.is_under.Reads as is-under
 use Rattle.policy.proofs.join.Reads as join
 
 pub check-policy-one : (κs : _) (a : _) (r s : _) (x y : _) → check-policy.Post κs a r x → check-policy.Post κs a s y → r ≡ s
@@ -13,9 +12,6 @@ check-policy-one κs a r s x y p q = p ∙ sym q
 
 pub join-one : (κs : _) (a : _) (r s : _) (x y : _) → join.Post κs a r x → join.Post κs a s y → r ≡ s
 join-one κs a r s x y p q = p .0 ∙ sym (q .0)
-
-pub is-under-one : (κs : _) (a : _) (r s : _) (x y : _) → is-under.Post κs a r x → is-under.Post κs a s y → r ≡ s
-is-under-one κs a r s x y p q = p ∙ sym q
 
 pub clearance-one : (κs : _) (a : _) (r s : _) (x y : _) → clearance.Post κs a r x → clearance.Post κs a s y → r ≡ s
 clearance-one κs a r s x y p q = p .0 ∙ sym (q .0)

@@ -48,13 +48,6 @@ pub fn join(p: &[u8], a: u8, b: u8) -> u8
     entry(p, a, b)
 }
 
-pub fn is_under(p: &[u8], t: u8, u: u8) -> bool
-    requires { ⌜ (LawfulPolicy (now p)) × (t < byte (now p) 6) × (u < byte (now p) 6) ⌝ }
-    ensures { λ r. ⌜ r ≡ under (policyOf (now (p .entry))) t u ⌝ }
-{
-    join(p, t, u) == u
-}
-
 pub fn clearance(p: &[u8], port: u8) -> u8
     requires { ⌜ (LawfulPolicy (now p)) × (port < byte (now p) 7) ⌝ }
     ensures { λ r. ⌜ (r ≡ policyOf (now (p .entry)) .clearance port) × (r < byte (now (p .entry)) 6) ⌝ }
