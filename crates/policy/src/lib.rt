@@ -1,13 +1,14 @@
 // Policies: the check of a table of tags, what an accepted one answers, and the house policy.
 ghost use mathlib.Core.Path.{_≡_};
 ghost use Prim.Native.Nat.{_+_, _*_, _<_, _≤_};
-ghost use lib.ListN.{length, getD};
+ghost use lib.ListN.{getD};
 ghost use Rattle.rules.specs.Bytes.{byte};
 ghost use Rattle.rules.specs.Checks.{upTo};
-ghost use Rattle.rules.specs.Policy.{policyOf, under, policyHeaderOk, checkEntry, lawAt, lawsOk, checkPolicy, housePolicy};
+ghost use Rattle.rules.specs.Policy.{policyOf, policyHeaderOk, checkEntry, lawsOk, checkPolicy, housePolicy};
 ghost use Rattle.rules.specs.Accepted.{LawfulPolicy};
 ghost use Rattle.rules.specs.Judged.{houseAsked};
 ghost use Rattle.policy.specs.Shape.{Headed, Filled};
+ghost use Rattle.policy.specs.Laws.{pairLaws, associates};
 use rules::Checked;
 use rules::Refusal;
 
@@ -112,28 +113,25 @@ fn check_entries(p: &[u8]) -> Checked
     Checked::Passed
 }
 
-fn law_at(p: &[u8], t: u8, u: u8, w: u8) -> bool
-    requires { ⌜ (Filled (now p)) × (t < byte (now p) 6) × (u < byte (now p) 6) × (w < byte (now p) 6) ⌝ }
-    ensures { λ r. ⌜ r ≡ lawAt (policyOf (now (p .entry))) t u w ⌝ }
+// Grouped so that no two ways meet before the answer, and each keeps what it has tested.
+fn pair_ok(p: &[u8], t: u8, u: u8) -> bool
+    requires { ⌜ (Filled (now p)) × (t < byte (now p) 6) × (u < byte (now p) 6) ⌝ }
+    ensures { λ r. ⌜ r ≡ pairLaws (policyOf (now (p .entry))) t u ⌝ }
 {
-    let tu = entry(p, t, u);
-    if tu != entry(p, u, t) {
-        return false;
-    }
-    let uw = entry(p, u, w);
-    if entry(p, tu, w) != entry(p, t, uw) {
-        return false;
-    }
-    if entry(p, t, t) != t {
-        return false;
-    }
-    if entry(p, 0, t) != t {
-        return false;
-    }
-    true
+    entry(p, t, u) == entry(p, u, t) && (entry(p, t, t) == t && entry(p, 0, t) == t)
 }
 
-// Three loops over the tags, left from the innermost at the first broken law.
+fn associates(p: &[u8], t: u8, u: u8, w: u8) -> bool
+    requires { ⌜ (Filled (now p)) × (t < byte (now p) 6) × (u < byte (now p) 6) × (w < byte (now p) 6) ⌝ }
+    ensures { λ r. ⌜ r ≡ associates (policyOf (now (p .entry))) t u w ⌝ }
+{
+    let tu = entry(p, t, u);
+    let uw = entry(p, u, w);
+    entry(p, tu, w) == entry(p, t, uw)
+}
+
+// Three loops over the tags, left from the innermost at the first broken law. The laws that need no third tag are tested
+// outside it, where once for each pair is enough.
 fn laws_ok(p: &[u8]) -> bool
     requires { ⌜ Filled (now p) ⌝ }
     ensures { λ r. ⌜ r ≡ lawsOk (policyOf (now (p .entry))) ⌝ }
@@ -142,8 +140,12 @@ fn laws_ok(p: &[u8]) -> bool
     let mut ok = true;
     'laws: for t in 0..n {
         for u in 0..n {
+            if !pair_ok(p, t, u) {
+                ok = false;
+                break 'laws;
+            }
             for w in 0..n {
-                if !law_at(p, t, u, w) {
+                if !associates(p, t, u, w) {
                     ok = false;
                     break 'laws;
                 }

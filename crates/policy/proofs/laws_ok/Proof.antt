@@ -7,7 +7,7 @@ use borrow.Author.Needs.{needs}
 use borrow.Author.Count.{below-none, below-more}
 use Rattle.rules.specs.Policy.{policyOf, lawAt}
 use Rattle.rules.proofs.Tests.{denied, held}
-use Rattle.policy.proofs.Laws.{laws-hold, law-broken}
+use Rattle.policy.proofs.Laws.{law-holds, no-pair, no-triple, laws-hold, law-broken}
 use Rattle.policy.proofs.laws_ok.Statement.{statement}
 use Rattle.policy.proofs.laws_ok.Tie as tie
 
@@ -39,11 +39,15 @@ laws-holds c = (search needs, refl, below-none _)
 loop-holds : tie.Need-loop-holds Inv-loop2 μ-loop2 Inv-loop μ-loop Inv-laws μ-laws
 loop-holds c = (search needs, c .before .laws .inv .1, below-none _)
 
-loop2-holds : tie.Need-loop2-holds Inv-loop2 μ-loop2 Inv-loop μ-loop Inv-laws μ-laws
-loop2-holds c = (search needs, c .before .loop .inv .1, below-none _)
+pair-ok-requires : tie.Need-pair-ok-requires Inv-loop2 μ-loop2 Inv-loop μ-loop Inv-laws μ-laws
+pair-ok-requires c κs = search needs
 
-law-at-requires : tie.Need-law-at-requires Inv-loop2 μ-loop2 Inv-loop μ-loop Inv-laws μ-laws
-law-at-requires c κs = search needs
+loop2-holds : tie.Need-loop2-holds Inv-loop2 μ-loop2 Inv-loop μ-loop Inv-laws μ-laws
+loop2-holds c = (search needs, c .before .before .before .loop .inv .1, below-none _)
+
+associates-requires :
+    tie.Need-associates-requires Inv-loop2 μ-loop2 Inv-loop μ-loop Inv-laws μ-laws
+associates-requires c κs = search needs
 
 add-w : tie.Need-add-w Inv-loop2 μ-loop2 Inv-loop μ-loop Inv-laws μ-laws
 add-w c = search needs
@@ -53,8 +57,10 @@ loop2-less c = search needs
 
 loop2-again : tie.Need-loop2-again Inv-loop2 μ-loop2 Inv-loop μ-loop Inv-laws μ-laws
 loop2-again c =
-    let inv = c .before .before .before .loop2 .inv in
-    (search needs, inv .1, below-more _ _ (inv .2) (held (c .before .law-at .ensures) (c .if1 .left)))
+    let turn = c .before .before .before in
+    let inv = turn .loop2 .inv in
+    let pair = held (turn .before .before .pair-ok .ensures) (turn .before .if1 .left) in
+    (search needs, inv .1, below-more _ _ (inv .2) (law-holds _ _ _ _ pair (held (c .before .associates .ensures) (c .if2 .left))))
 
 add-u : tie.Need-add-u Inv-loop2 μ-loop2 Inv-loop μ-loop Inv-laws μ-laws
 add-u c = search needs
@@ -65,7 +71,7 @@ loop-less c = search needs
 loop-again : tie.Need-loop-again Inv-loop2 μ-loop2 Inv-loop μ-loop Inv-laws μ-laws
 loop-again c =
     let row = c .before .loop2 .inv in
-    (search needs, row .1, below-more _ _ (c .before .before .before .loop .inv .2) (λ k l. row .2 k (omega arith)))
+    (search needs, row .1, below-more _ _ (c .before .before .before .before .before .loop .inv .2) (λ k l. row .2 k (omega arith)))
 
 add-t : tie.Need-add-t Inv-loop2 μ-loop2 Inv-loop μ-loop Inv-laws μ-laws
 add-t c = search needs
@@ -85,7 +91,13 @@ returns c =
 
 returns-2 : tie.Need-returns-2 Inv-loop2 μ-loop2 Inv-loop μ-loop Inv-laws μ-laws
 returns-2 c =
-    sym (law-broken _ _ _ _ (omega arith) (omega arith) (omega arith) (denied (c .before .law-at .ensures) (c .if1 .taken)))
+    let no-law = no-pair _ _ _ 0 (denied (c .before .pair-ok .ensures) (c .if1 .taken)) in
+    sym (law-broken _ _ _ _ (omega arith) (omega arith) (omega arith) no-law)
+
+returns-3 : tie.Need-returns-3 Inv-loop2 μ-loop2 Inv-loop μ-loop Inv-laws μ-laws
+returns-3 c =
+    let no-law = no-triple _ _ _ _ (denied (c .before .associates .ensures) (c .if2 .taken)) in
+    sym (law-broken _ _ _ _ (omega arith) (omega arith) (omega arith) no-law)
 
 pub laws-ok-spec : {M : Type 1} → statement M
 laws-ok-spec =
@@ -100,8 +112,9 @@ laws-ok-spec =
     shared-slice-read-n
     laws-holds
     loop-holds
+    pair-ok-requires
     loop2-holds
-    law-at-requires
+    associates-requires
     add-w
     loop2-less
     loop2-again
@@ -112,4 +125,5 @@ laws-ok-spec =
     laws-less
     laws-again
     returns
-    returns-2)
+    returns-2
+    returns-3)
