@@ -4,6 +4,7 @@ const struct named machines[] = {
     { "plain", plain_judge },
     { "vraduceni", vraduceni_judge },
 #ifndef NO_RUST
+    { "second", second_judge },
     { "rust", rust_judge },
 #endif
     { "threaded", threaded_judge },

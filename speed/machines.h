@@ -23,9 +23,10 @@ judge_fn plain_judge;     /* plain.c: C, written for speed: one loop, one switch
 judge_fn threaded_judge;  /* threaded.c: C, as fast as an interpreter gets */
 judge_fn literal_judge;   /* literal.c: C, the paper's text step by step */
 judge_fn rust_judge;      /* rust/: safe Rust, written to be fast */
+judge_fn second_judge;    /* second/: the second machine, ordinary safe Rust */
 
 /* All of them, plain first and literal last. */
-enum { MOST_MACHINES = 5 };
+enum { MOST_MACHINES = 6 };
 struct named { const char *name; judge_fn *judge; };
 extern const struct named machines[];
 extern const uint32_t machine_count;

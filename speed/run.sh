@@ -46,19 +46,27 @@ else
     $cc -O3 $warn -Dplain_judge=vraduceni_judge -c "$here/plain.c" -o "$library" || fail "plain.c"
 fi
 
-# The Rust machine, as one object that shows one name: what else of Rust's
-# library it holds cannot meet that of another library.
+# rust_object NAME EDITION: NAME/lib.rs as one object that shows one name,
+# NAME_judge: what else of Rust's library it holds cannot meet that of another
+# library.
+rust_object() {
+    $rustc --edition "$2" -C opt-level=3 -C panic=abort -C codegen-units=1 \
+        --crate-type staticlib --crate-name "$1_machine" "$here/$1/lib.rs" \
+        -o "$build/lib$1_machine.a" || fail "$1/lib.rs"
+    ld -r -u "$1_judge" "$build/lib$1_machine.a" -o "$build/$1_all.o" || fail "ld -r, $1"
+    objcopy --keep-global-symbol="$1_judge" "$build/$1_all.o" "$build/$1.o" || fail "objcopy, $1"
+}
+
+# The Rust machines; second/lib.rs takes in ../second/src/machine.rs, so it has
+# that one's edition.
 no_rust=
 rust=
 if has "$rustc"; then
-    rust=$build/rust.o
-    $rustc --edition 2024 -C opt-level=3 -C panic=abort -C codegen-units=1 \
-        --crate-type staticlib --crate-name rust_machine "$here/rust/lib.rs" \
-        -o "$build/librust_machine.a" || fail "rust/lib.rs"
-    ld -r -u rust_judge "$build/librust_machine.a" -o "$build/rust_all.o" || fail "ld -r"
-    objcopy --keep-global-symbol=rust_judge "$build/rust_all.o" "$rust" || fail "objcopy"
+    rust_object second 2021
+    rust_object rust 2024
+    rust="$build/second.o $build/rust.o"
 else
-    say "no $rustc: the Rust machine is left out"
+    say "no $rustc: the two Rust machines are left out"
     no_rust=-DNO_RUST
 fi
 
@@ -113,7 +121,7 @@ callgrind() {
         return 0
     fi
     names="plain vraduceni"
-    [ -z "$rust" ] || names="$names rust"
+    [ -z "$rust" ] || names="$names second rust"
     names="$names threaded literal"
     echo
     echo "Instructions a step, whole calls (callgrind)"
