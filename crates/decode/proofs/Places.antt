@@ -7,7 +7,7 @@ use mathlib.Core.List.{List, [], _∷_}
 use denote.Enum.Declared.{tagOf}
 use types.Run.{OneOf}
 use borrow.Author.Count.{below-more}
-use lib.ListN.{length, getD, set, length-set}
+use lib.ListN.{length, set}
 use lib.Seq.{getD-set-same, getD-set-other}
 use Rattle.rules.proofs.Expr.{the-type}
 use Rattle.rules.specs.declared.Place.{Place}
@@ -19,54 +19,24 @@ use Rattle.rules.specs.Memory.{_#_, valueOf, Memory, placeAt, write, places, pl
 use Rattle.rules.proofs.Bytes.{length-places}
 use Rattle.memory.specs.Layout.{placed}
 use Rattle.memory.proofs.Places.{read, written, places-bytes}
+use Rattle.layout.specs.Answers.{worthOf}
 use Rattle.layout.specs.Places.{placeIn, heldFrom, ConstantAs}
-use Rattle.decode.specs.Filled.{PlacesKept, PlacesAs, ConstantsAs}
+use Rattle.layout.proofs.Answers.{worth-back}
+use Rattle.decode.specs.Filled.{Kept, PlacesAs, ConstantsAs}
+use Rattle.decode.proofs.Tables.{kept-set}
 
--- ---- what is kept
+-- ---- places
 
-pub places-kept-none : (lo : ℕ) (u : List ℕ) → PlacesKept lo u u
-places-kept-none lo u = record { long = refl; values = λ i h. refl; tags = λ i h. refl }
+pub places-kept : (m : List ℕ) (n : ℕ) {lo : ℕ} {u v : List ℕ} → Kept lo u v → n ≤ lo → PlacesAs m n u → PlacesAs m n v
+places-kept m n k l all i h = ap worthOf (k .below i (omega arith)) ∙ all i h
 
-pub places-kept-then : {lo hi : ℕ} {u v w : List ℕ} → lo ≤ hi → PlacesKept lo u v → PlacesKept hi v w → PlacesKept lo u w
-places-kept-then l a b =
-    record {
-      long = b .long ∙ a .long;
-      values = λ i h. b .values i (omega arith) ∙ a .values i h;
-      tags = λ i h. b .tags i (omega arith) ∙ a .tags i h;
-    }
+place-put : (u : List ℕ) (i : ℕ) (q : Place) → i < length u → q .value < 2 ^ 32 → placeIn (set u i (q .value + 4294967296 * q .tag)) i ≡ q
+place-put u i q h small = ap worthOf (getD-set-same u i _ 0 h) ∙ worth-back q small
 
-place-kept : {lo : ℕ} {u v : List ℕ} → PlacesKept lo u v → (i : ℕ) → i < lo → placeIn v i ≡ placeIn u i
-place-kept k i h = rw (k .values i h, k .tags i h)
-
-pub places-kept : (m : List ℕ) (n : ℕ) {lo : ℕ} {u v : List ℕ} → PlacesKept lo u v → n ≤ lo → PlacesAs m n u → PlacesAs m n v
-places-kept m n k l all i h = place-kept k i (omega arith) ∙ all i h
-
--- ---- a place is written
-
-module _ (u : List ℕ) (size : length u ≡ 4224) (i w g : ℕ) (fits : i < 2112) where
-  abbrev put : List ℕ
-  put = set (set u i w) (2112 + i) g
-
-  pub value-put : getD put i 0 ≡ w
-  value-put = getD-set-other (set u i w) (2112 + i) i g 0 (λ e. omega arith) ∙ getD-set-same u i w 0 (omega arith)
-
-  pub tag-put : getD put (2112 + i) 0 ≡ g
-  tag-put = getD-set-same (set u i w) (2112 + i) g 0 (simp length-set (omega arith))
-
-  pub kept-put : PlacesKept i u put
-  kept-put =
-      record {
-        long = simp length-set;
-        values = λ j h. getD-set-other (set u i w) (2112 + i) j g 0 (λ e. omega arith) ∙ getD-set-other u i j w 0 (λ e. omega arith);
-        tags = λ j h. getD-set-other (set u i w) (2112 + i) (2112 + j) g 0 (λ e. omega arith) ∙ getD-set-other u i (2112 + j) w 0 (λ e. omega arith);
-      }
-
-pub places-more : (m u : List ℕ) (i : ℕ) (q : Place) → length u ≡ 4224 → i < 1088 → q ≡ whole m (5 * i) # byte m (5 * i + 4)
-    → PlacesAs m i u → PlacesAs m (i + 1) (set (set u i (q .value)) (2112 + i) (q .tag))
-places-more m u i q size h e all =
-    let k = kept-put u size i (q .value) (q .tag) (omega arith) in
-    below-more _ i (places-kept m i k (omega arith) all)
-    (rw (value-put u size i (q .value) (q .tag) (omega arith), tag-put u size i (q .value) (q .tag) (omega arith)) e)
+pub places-more : (m u : List ℕ) (i : ℕ) (q : Place) → i < length u → q .value < 2 ^ 32 → q ≡ whole m (5 * i) # byte m (5 * i + 4)
+    → PlacesAs m i u → PlacesAs m (i + 1) (set u i (q .value + 4294967296 * q .tag))
+places-more m u i q h small e all =
+    below-more _ i (places-kept m i (kept-set i u i _ (omega arith)) (omega arith) all) (place-put u i q h small ∙ e)
 
 -- ---- constants
 
@@ -88,17 +58,14 @@ no-constant u e (Unary op x) h = tt
 no-constant u e (Binary op x y) h = tt
 no-constant u e BadExpr h = tt
 
-pub constant-put : (u : List ℕ) (e w : ℕ) (x : Expr) → length u ≡ 4224 → e < 1024 → x ≡ Constant w
-    → ConstantAs (set (set u (1088 + e) w) (3200 + e) 0) e x × PlacesKept (1088 + e) u (set (set u (1088 + e) w) (3200 + e) 0)
-constant-put u e w x size h q =
-    let i : 3200 + e ≡ 2112 + (1088 + e) = omega arith in
-    rw (q, i)
-    ((value-put u size (1088 + e) w 0 (omega arith), tag-put u size (1088 + e) w 0 (omega arith)), kept-put u size (1088 + e) w 0 (omega arith))
+pub constant-put : (u : List ℕ) (e w : ℕ) (x : Expr) → 1088 + e < length u → w < 2 ^ 32 → x ≡ Constant w
+    → ConstantAs (set u (1088 + e) w) e x × Kept (1088 + e) u (set u (1088 + e) w)
+constant-put u e w x h small q =
+    let z : w + 4294967296 * 0 ≡ w = omega arith in
+    rw q (rw z at (place-put u (1088 + e) (w # 0) h small), kept-set (1088 + e) u (1088 + e) w (omega arith))
 
-constant-kept : {lo : ℕ} {u v : List ℕ} (e : ℕ) (x : Expr) → PlacesKept lo u v → 1088 + e < lo → ConstantAs u e x → ConstantAs v e x
-constant-kept e (Constant w) k l a =
-    let i : 2112 + (1088 + e) ≡ 3200 + e = omega arith in
-    (k .values (1088 + e) l ∙ a .0, rw i at (k .tags (1088 + e) l) ∙ a .1)
+constant-kept : {lo : ℕ} {u v : List ℕ} (e : ℕ) (x : Expr) → Kept lo u v → 1088 + e < lo → ConstantAs u e x → ConstantAs v e x
+constant-kept e (Constant w) k l a = ap worthOf (k .below (1088 + e) l) ∙ a
 constant-kept e (Variable x) k l a = tt
 constant-kept e (Cell x) k l a = tt
 constant-kept e (Unary op x) k l a = tt
@@ -106,7 +73,7 @@ constant-kept e (Binary op x y) k l a = tt
 constant-kept e BadExpr k l a = tt
 
 pub constants-more : (r : List ℕ) {u v : List ℕ} (e : ℕ) {x : Expr} → x ≡ recipeOf r .exprAt e → ConstantAs v e x
-    → PlacesKept (1088 + e) u v → ConstantsAs r e u → ConstantsAs r (e + 1) v
+    → Kept (1088 + e) u v → ConstantsAs r e u → ConstantsAs r (e + 1) v
 constants-more r e q a k all =
     below-more _ e (λ j h. constant-kept j (recipeOf r .exprAt j) k (omega arith) (all j h)) (rw q at a)
 

@@ -1,10 +1,11 @@
 -- The tables, filled upwards: what a store makes so, and what it leaves. Assumes nothing.
 use Prim.Native.Nat.{ℕ, _+_, _*_, _<_, _≤_}
 use native.Mathlib.Omega.{arith}
-use mathlib.Core.Path.{_≡_, refl, _∙_}
+use mathlib.Core.Path.{_≡_, refl, sym, ap, _∙_}
+use mathlib.Core.Bool.{Bool, true, false}
 use mathlib.Core.List.{List}
 use borrow.Author.Count.{below-more}
-use lib.ListN.{length, set, length-set}
+use lib.ListN.{length, getD, set, length-set}
 use lib.Seq.{getD-set-same, getD-set-other}
 use Rattle.rules.specs.declared.Expr.{Expr}
 use Rattle.rules.specs.declared.Expr.the-variants.{Constant, Variable, Cell, Unary, Binary, BadExpr}
@@ -12,11 +13,13 @@ use Rattle.rules.specs.declared.Stmt.{Stmt}
 use Rattle.rules.specs.declared.Stmt.the-variants.{Skip, Assign, Store, Then, If, While, Emit, BadStmt}
 use Rattle.rules.specs.Bytes.{byte}
 use Rattle.rules.specs.Policy.{policyOf}
-use Rattle.rules.specs.Recipe.{recipeOf}
+use Rattle.rules.specs.Checks.{_and_}
+use Rattle.rules.specs.Recipe.{Recipe, recipeOf}
 use Rattle.rules.specs.Accepted.{ExprOk, StmtOk, WellFormed, LawfulPolicy}
-use Rattle.layout.specs.Tables.{ExprAs, StmtAs, Decoded}
+use Rattle.layout.specs.Tables.{leaf, placeOf, codeOf, ExprAs, StmtAs, Decoded}
+use Rattle.layout.proofs.Answers.{unary-range, binary-range}
 use Rattle.decode.specs.declared.Fields.{Fields}
-use Rattle.decode.specs.Filled.{exprFields, stmtFields, FieldsAt, Kept, ExprsAs, StmtsAs, RowAs, JoinsAs, ClearancesAs}
+use Rattle.decode.specs.Filled.{fieldsOf, oneOperand, twoOperands, exprFields, stmtFields, FieldsAt, Kept, ExprsAs, StmtsAs, RowAs, JoinsAs, ClearancesAs}
 
 -- ---- what is kept
 
@@ -67,30 +70,78 @@ module _ (t : List ℕ) (at : ℕ) (f : Fields) (fits : at + 3 < length t) where
 
 -- ---- expressions
 
-expr-few : (v e : ℕ) (x : Expr) → v ≤ 64 → ExprOk v e x → ExprOk 64 e x
-expr-few v e (Constant w) l k = tt
-expr-few v e (Variable x) l k = omega arith
-expr-few v e (Cell i) l k = k
-expr-few v e (Unary op a) l k = k
-expr-few v e (Binary op a b) l k = k
-expr-few v e BadExpr l k = k
+-- what was read as expression e is told to be y
+module _ (r : List ℕ) (e : ℕ) {x y : Expr} (q : x ≡ recipeOf r .exprAt e) (told : x ≡ y) where
+  pub expr-fits : WellFormed r → e < recipeOf r .exprs → ExprOk (recipeOf r .vars) e y
+  expr-fits w h = rw (sym q ∙ told) at (w .ordered .exprs-ok e h)
 
-pub expr-fits : (r : List ℕ) (e : ℕ) (x : Expr) → WellFormed r → e < recipeOf r .exprs → x ≡ recipeOf r .exprAt e → ExprOk 64 e x
-expr-fits r e x w h q = rw q (expr-few (recipeOf r .vars) e (recipeOf r .exprAt e) (w .counts .few-vars) (w .ordered .exprs-ok e h))
+  pub expr-told : {f : Fields} → f ≡ exprFields (recipeOf r) e y → f ≡ exprFields (recipeOf r) e (recipeOf r .exprAt e)
+  expr-told g = g ∙ ap (exprFields (recipeOf r) e) (sym told ∙ q)
 
-pub expr-kept : {lo : ℕ} {t v : List ℕ} {e : ℕ} {x : Expr} → Kept lo t v → 4 * e + 3 ≤ lo → ExprAs t e x → ExprAs v e x
+code-some : (flat : Bool) (k : ℕ) → 0 < k → codeOf flat k ≡ 0 → ⊥
+code-some true k h e = omega arith
+code-some false k h e = omega arith
+
+-- a record whose code is 0 is a leaf's, and has its place; any other is none
+leaf-read : (R : Recipe) (t : List ℕ) (a : ℕ) (x : Expr) → ExprAs R t a x → getD t (4 * a) 0 ≡ 0
+    → (leaf x ≡ true) × (getD t (4 * a + 1) 0 ≡ placeOf a x)
+leaf-read R t a (Constant w) k z = (refl, k .left)
+leaf-read R t a (Variable v) k z = (refl, k .left)
+leaf-read R t a (Cell i) k z = absurd (code-some (leaf (R .exprAt i)) 1 (omega arith) (sym (k .code) ∙ z))
+leaf-read R t a (Unary op x) k z = absurd (code-some (leaf (R .exprAt x)) _ (omega (arith, unary-range op)) (sym (k .code) ∙ z))
+leaf-read R t a (Binary op x y) k z = absurd (code-some (leaf (R .exprAt x) and leaf (R .exprAt y)) _ (omega (arith, binary-range op)) (sym (k .code) ∙ z))
+leaf-read R t a BadExpr k z = (refl, k .left)
+
+inner-read : (R : Recipe) (t : List ℕ) (a : ℕ) (x : Expr) → ExprAs R t a x → (getD t (4 * a) 0 ≡ 0 → ⊥) → leaf x ≡ false
+inner-read R t a (Constant w) k n = absurd (n (k .code))
+inner-read R t a (Variable v) k n = absurd (n (k .code))
+inner-read R t a (Cell i) k n = refl
+inner-read R t a (Unary op x) k n = refl
+inner-read R t a (Binary op x y) k n = refl
+inner-read R t a BadExpr k n = absurd (n (k .code))
+
+and-false : (x : Bool) → x and false ≡ false
+unfolding _and_
+and-false true = refl
+and-false false = refl
+
+module _ (R : Recipe) (t : List ℕ) (k a : ℕ) (l : ExprAs R t a (R .exprAt a)) where
+  pub one-leaf : getD t (4 * a) 0 ≡ 0 → fieldsOf k (getD t (4 * a + 1) 0) 0 0 ≡ oneOperand R k a
+  one-leaf z =
+      let h = leaf-read R t a (R .exprAt a) l z in
+      rw (h .0, h .1)
+
+  pub one-inner : (getD t (4 * a) 0 ≡ 0 → ⊥) → fieldsOf (16 + k) a 0 0 ≡ oneOperand R k a
+  one-inner n = rw (inner-read R t a (R .exprAt a) l n)
+
+  module _ (b : ℕ) (m : ExprAs R t b (R .exprAt b)) where
+    pub two-leaves : getD t (4 * a) 0 ≡ 0 → getD t (4 * b) 0 ≡ 0 → fieldsOf k (getD t (4 * a + 1) 0) (getD t (4 * b + 1) 0) 0 ≡ twoOperands R k a b
+    unfolding _and_
+    two-leaves y z =
+        let g = leaf-read R t a (R .exprAt a) l y in
+        let h = leaf-read R t b (R .exprAt b) m z in
+        rw (g .0, h .0, g .1, h .1)
+
+    pub first-inner : (getD t (4 * a) 0 ≡ 0 → ⊥) → fieldsOf (16 + k) a b 0 ≡ twoOperands R k a b
+    unfolding _and_
+    first-inner n = rw (inner-read R t a (R .exprAt a) l n)
+
+    pub second-inner : (getD t (4 * b) 0 ≡ 0 → ⊥) → fieldsOf (16 + k) a b 0 ≡ twoOperands R k a b
+    second-inner n = rw (inner-read R t b (R .exprAt b) m n, and-false (leaf (R .exprAt a)))
+
+pub expr-kept : {R : Recipe} {lo : ℕ} {t v : List ℕ} {e : ℕ} {x : Expr} → Kept lo t v → 4 * e + 3 ≤ lo → ExprAs R t e x → ExprAs R v e x
 expr-kept {e = e} k l a =
     record {
-      operator = k .below (4 * e) (omega arith) ∙ a .operator;
+      code = k .below (4 * e) (omega arith) ∙ a .code;
       left = k .below (4 * e + 1) (omega arith) ∙ a .left;
       right = k .below (4 * e + 2) (omega arith) ∙ a .right;
     }
 
-pub exprs-more : (r : List ℕ) {t v : List ℕ} (e : ℕ) {f : Fields} {x : Expr} → f ≡ exprFields e x → x ≡ recipeOf r .exprAt e
+pub exprs-more : (r : List ℕ) {t v : List ℕ} (e : ℕ) {f : Fields} → f ≡ exprFields (recipeOf r) e (recipeOf r .exprAt e)
     → FieldsAt v (4 * e) f → Kept (4 * e) t v → ExprsAs r e t → ExprsAs r (e + 1) v
-exprs-more r {t} {v} e {f} {x} p q a k all =
-    let g : FieldsAt v (4 * e) (exprFields e (recipeOf r .exprAt e)) = rw (p, q) at a in
-    below-more _ e (λ j h. expr-kept k (omega arith) (all j h)) (record { operator = g .kind-at; left = g .first-at; right = g .second-at })
+exprs-more r {t} {v} e {f} q a k all =
+    let g : FieldsAt v (4 * e) (exprFields (recipeOf r) e (recipeOf r .exprAt e)) = rw q at a in
+    below-more _ e (λ j h. expr-kept k (omega arith) (all j h)) (record { code = g .kind-at; left = g .first-at; right = g .second-at })
 
 -- ---- statements
 

@@ -2,15 +2,17 @@
 -- stands above. Assumes nothing.
 use Prim.Native.Nat.{ℕ, _+_, _*_, _<_}
 use mathlib.Core.Path.{_≡_}
+use mathlib.Core.Bool.{Bool}
 use mathlib.Core.List.{List}
 use lib.ListN.{length, getD}
 use Rattle.rules.specs.declared.Expr.{Expr}
 use Rattle.rules.specs.declared.Stmt.{Stmt}
 use Rattle.rules.specs.Bytes.{byte, whole}
 use Rattle.rules.specs.Policy.{policyOf}
-use Rattle.rules.specs.Recipe.{recipeOf}
+use Rattle.rules.specs.Checks.{_and_}
+use Rattle.rules.specs.Recipe.{Recipe, recipeOf}
 use Rattle.rules.specs.Memory.{_#_}
-use Rattle.layout.specs.Tables.{operatorOf, leftOf, rightOf, ExprAs, kindOf, firstOf, secondOf, thirdOf, StmtAs, joinIn}
+use Rattle.layout.specs.Tables.{operatorOf, leaf, flat, codeOf, operandOf, leftOf, rightOf, ExprAs, kindOf, firstOf, secondOf, thirdOf, StmtAs, joinIn}
 use Rattle.layout.specs.Places.{placeIn, ConstantAs}
 use Rattle.decode.specs.declared.Fields.{Fields}
 
@@ -19,8 +21,18 @@ use Rattle.decode.specs.declared.Fields.{Fields}
 abbrev pub fieldsOf : (kind first second third : ℕ) → Fields
 fieldsOf k a b c = record { kind = k; first = a; second = b; third = c }
 
-abbrev pub exprFields : (e : ℕ) → Expr → Fields
-exprFields e x = fieldsOf (operatorOf x) (leftOf e x) (rightOf x) 0
+-- an operator k and its operands
+abbrev pub oneOperand : Recipe → (k a : ℕ) → Fields
+oneOperand R k a = fieldsOf (codeOf (leaf (R .exprAt a)) k) (operandOf R (leaf (R .exprAt a)) a) 0 0
+
+abbrev pub bothLeaves : Recipe → (a b : ℕ) → Bool
+bothLeaves R a b = leaf (R .exprAt a) and leaf (R .exprAt b)
+
+abbrev pub twoOperands : Recipe → (k a b : ℕ) → Fields
+twoOperands R k a b = fieldsOf (codeOf (bothLeaves R a b) k) (operandOf R (bothLeaves R a b) a) (operandOf R (bothLeaves R a b) b) 0
+
+abbrev pub exprFields : Recipe → (e : ℕ) → Expr → Fields
+exprFields R e x = fieldsOf (codeOf (flat R x) (operatorOf x)) (leftOf R e x) (rightOf R x) 0
 
 abbrev pub stmtFields : Stmt → Fields
 stmtFields x = fieldsOf (kindOf x) (firstOf x) (secondOf x) (thirdOf x)
@@ -31,16 +43,16 @@ pub record FieldsAt (t : List ℕ) (at : ℕ) (f : Fields) : Type 0 where
   pub second-at : getD t (at + 2) 0 ≡ f .second
   pub third-at : getD t (at + 3) 0 ≡ f .third
 
--- ---- the tables
-
 -- v is as long as t, and as t below lo
 pub record Kept (lo : ℕ) (t v : List ℕ) : Type 0 where
   pub long : length v ≡ length t
   pub below : (i : ℕ) → i < lo → getD v i 0 ≡ getD t i 0
 
+-- ---- the tables
+
 -- the first n of each kind
 abbrev pub ExprsAs : (r : List ℕ) (n : ℕ) (t : List ℕ) → Type 0
-ExprsAs r n t = (e : ℕ) → e < n → ExprAs t e (recipeOf r .exprAt e)
+ExprsAs r n t = (e : ℕ) → e < n → ExprAs (recipeOf r) t e (recipeOf r .exprAt e)
 
 abbrev pub StmtsAs : (r : List ℕ) (n : ℕ) (t : List ℕ) → Type 0
 StmtsAs r n t = (s : ℕ) → s < n → StmtAs t s (recipeOf r .stmtAt s)
@@ -55,12 +67,6 @@ abbrev pub ClearancesAs : (p : List ℕ) (n : ℕ) (t : List ℕ) → Type 0
 ClearancesAs p n t = (port : ℕ) → port < n → getD t (8448 + port) 0 ≡ policyOf p .clearance port
 
 -- ---- the places
-
--- v is as long as u, and as u in the places below lo
-pub record PlacesKept (lo : ℕ) (u v : List ℕ) : Type 0 where
-  pub long : length v ≡ length u
-  pub values : (i : ℕ) → i < lo → getD v i 0 ≡ getD u i 0
-  pub tags : (i : ℕ) → i < lo → getD v (2112 + i) 0 ≡ getD u (2112 + i) 0
 
 abbrev pub PlacesAs : (m : List ℕ) (n : ℕ) (u : List ℕ) → Type 0
 PlacesAs m n u = (i : ℕ) → i < n → placeIn u i ≡ (whole m (5 * i) # byte m (5 * i + 4))

@@ -1,15 +1,15 @@
 // Filling the arrays that the run reads, once, from accepted tables; and the memory's bytes from them at the end.
 ghost use mathlib.Core.Path.{_≡_};
-ghost use Prim.Native.Nat.{ℕ, _+_, _*_, _<_, _≤_};
+ghost use Prim.Native.Nat.{ℕ, _+_, _*_, _/_, _<_, _≤_};
 ghost use lib.ListN.{length, getD};
 ghost use Rattle.rules.specs.Bytes.{byte};
 ghost use Rattle.rules.specs.Policy.{policyOf};
-ghost use Rattle.rules.specs.Recipe.{recipeOf};
+ghost use Rattle.rules.specs.Recipe.{Recipe, recipeOf};
 ghost use Rattle.rules.specs.Memory.{placesOf, placeBytes, count};
-ghost use Rattle.rules.specs.Accepted.{ExprOk, StmtOk, WellFormed, LawfulPolicy};
-ghost use Rattle.layout.specs.Tables.{unaryNumber, binaryNumber, Decoded};
+ghost use Rattle.rules.specs.Accepted.{StmtOk, WellFormed, LawfulPolicy};
+ghost use Rattle.layout.specs.Tables.{unaryNumber, binaryNumber, ExprAs, Decoded};
 ghost use Rattle.layout.specs.Places.{heldFrom, heldIn, ConstantAs};
-ghost use Rattle.decode.specs.Filled.{fieldsOf, exprFields, stmtFields, FieldsAt, Kept, ExprsAs, StmtsAs, RowAs, JoinsAs, ClearancesAs, PlacesAs, ConstantsAs, PlacesKept};
+ghost use Rattle.decode.specs.Filled.{fieldsOf, oneOperand, twoOperands, exprFields, stmtFields, FieldsAt, Kept, ExprsAs, StmtsAs, RowAs, JoinsAs, ClearancesAs, PlacesAs, ConstantsAs};
 use rules::BinaryOp;
 use rules::Expr;
 use rules::Place;
@@ -74,17 +74,42 @@ fn binary_number(op: BinaryOp) -> u16
     }
 }
 
-// The bounds are those of an accepted recipe, so that every number fits 16 bits.
-fn expr_fields(e: usize, x: Expr) -> Fields
-    requires { ⌜ (e < 1024) × ExprOk 64 e x ⌝ }
-    ensures { λ f. ⌜ f ≡ exprFields e x ⌝ }
+// An operand that is a leaf is named by its place, which its own record has.
+fn one_operand(t: &[u16], k: u16, a: usize) -> Fields
+    requires { ⌜ (k < 16) × (a < 1024) × (length (now t) ≡ 8466) ⌝ }
+    ensures { λ f. ⌜ ((R : Recipe) → ExprAs R (now (t .entry)) a (R .exprAt a) → f ≡ oneOperand R k a) ⌝ }
 {
-    match x {
+    if t[4 * a] == 0 {
+        fields_of(k, t[4 * a + 1], 0, 0)
+    } else {
+        fields_of(16 + k, a as u16, 0, 0)
+    }
+}
+
+// Both operands are named by their places, or neither.
+fn two_operands(t: &[u16], k: u16, a: usize, b: usize) -> Fields
+    requires { ⌜ (k < 16) × (a < 1024) × (b < 1024) × (length (now t) ≡ 8466) ⌝ }
+    ensures { λ f. ⌜ ((R : Recipe) → ExprAs R (now (t .entry)) a (R .exprAt a) → ExprAs R (now (t .entry)) b (R .exprAt b) → f ≡ twoOperands R k a b) ⌝ }
+{
+    if t[4 * a] == 0 {
+        if t[4 * b] == 0 {
+            return fields_of(k, t[4 * a + 1], t[4 * b + 1], 0);
+        }
+    }
+    fields_of(16 + k, a as u16, b as u16, 0)
+}
+
+// An expression's operands are lower than itself, so that their records are there.
+fn expr_fields(r: &[u8], t: &[u16], e: usize) -> Fields
+    requires { ⌜ WellFormed (now r) × (e < recipeOf (now r) .exprs) × (length (now t) ≡ 8466) × ExprsAs (now r) e (now t) ⌝ }
+    ensures { λ f. ⌜ f ≡ exprFields (recipeOf (now (r .entry))) e (recipeOf (now (r .entry)) .exprAt e) ⌝ }
+{
+    match tables::expr_at(r, e) {
         Expr::Constant(_) => fields_of(0, (1088 + e) as u16, 0, 0),
         Expr::Variable(v) => fields_of(0, v as u16, 0, 0),
-        Expr::Cell(i) => fields_of(1, i as u16, 0, 0),
-        Expr::Unary(op, a) => fields_of(unary_number(op), a as u16, 0, 0),
-        Expr::Binary(op, a, b) => fields_of(binary_number(op), a as u16, b as u16, 0),
+        Expr::Cell(i) => one_operand(t, 1, i),
+        Expr::Unary(op, a) => one_operand(t, unary_number(op), a),
+        Expr::Binary(op, a, b) => two_operands(t, binary_number(op), a, b),
         Expr::BadExpr => fields_of(0, 0, 0, 0),
     }
 }
@@ -95,7 +120,7 @@ fn decode_exprs(r: &[u8], t: &mut [u16])
 {
     let exprs = tables::half_at(r, 6);
     for e in 0..exprs {
-        let f = expr_fields(e, tables::expr_at(r, e));
+        let f = expr_fields(r, t, e);
         put_fields(t, 4 * e, f);
     }
 }
@@ -182,30 +207,28 @@ pub fn decode(r: &[u8], p: &[u8], t: &mut [u16; 8466])
 
 // ---- the places
 
-fn load_places(m: &[u8], count: usize, u: &mut [u32])
-    requires { ⌜ (count ≤ 1088) × (length (now m) ≡ 5 * count) × (length (now u) ≡ 4224) ⌝ }
+fn load_places(m: &[u8], count: usize, u: &mut [u64])
+    requires { ⌜ (count ≤ 1088) × (length (now m) ≡ 5 * count) × (length (now u) ≡ 2112) ⌝ }
     ensures { λ _. ⌜ PlacesAs (now (m .entry)) count (now (u .exit)) ⌝ }
 {
     for i in 0..count {
         let q = memory::place_at(m, i);
-        u[i] = q.value;
-        u[2112 + i] = q.tag as u32;
+        u[i] = (q.value as u64) + 4294967296 * (q.tag as u64);
     }
 }
 
-fn load_constant(u: &mut [u32], e: usize, x: Expr)
-    requires { ⌜ (e < 1024) × (length (now u) ≡ 4224) ⌝ }
-    ensures { λ _. ⌜ ConstantAs (now (u .exit)) e x × PlacesKept (1088 + e) (now (u .entry)) (now (u .exit)) ⌝ }
+fn load_constant(u: &mut [u64], e: usize, x: Expr)
+    requires { ⌜ (e < 1024) × (length (now u) ≡ 2112) ⌝ }
+    ensures { λ _. ⌜ ConstantAs (now (u .exit)) e x × Kept (1088 + e) (now (u .entry)) (now (u .exit)) ⌝ }
 {
     if let Expr::Constant(w) = x {
-        u[1088 + e] = w;
-        u[3200 + e] = 0;
+        u[1088 + e] = w as u64;
     }
 }
 
-fn load_constants(r: &[u8], u: &mut [u32])
-    requires { ⌜ WellFormed (now r) × (length (now u) ≡ 4224) ⌝ }
-    ensures { λ _. ⌜ ConstantsAs (now (r .entry)) (recipeOf (now (r .entry)) .exprs) (now (u .exit)) × PlacesKept 1088 (now (u .entry)) (now (u .exit)) ⌝ }
+fn load_constants(r: &[u8], u: &mut [u64])
+    requires { ⌜ WellFormed (now r) × (length (now u) ≡ 2112) ⌝ }
+    ensures { λ _. ⌜ ConstantsAs (now (r .entry)) (recipeOf (now (r .entry)) .exprs) (now (u .exit)) × Kept 1088 (now (u .entry)) (now (u .exit)) ⌝ }
 {
     let exprs = tables::half_at(r, 6);
     for e in 0..exprs {
@@ -214,9 +237,9 @@ fn load_constants(r: &[u8], u: &mut [u32])
     }
 }
 
-pub fn load(r: &[u8], m: &[u8], u: &mut [u32; 4224])
+pub fn load(r: &[u8], m: &[u8], u: &mut [u64; 2112])
     requires { ⌜ WellFormed (now r) × (length (now m) ≡ 5 * count (recipeOf (now r))) ⌝ }
-    ensures { λ _. ⌜ (heldIn (recipeOf (now (r .entry))) (now (u .exit)) ≡ placesOf (recipeOf (now (r .entry))) (now (m .entry))) × ((e : ℕ) → e < recipeOf (now (r .entry)) .exprs → ConstantAs (now (u .exit)) e (recipeOf (now (r .entry)) .exprAt e)) × (length (now (u .exit)) ≡ 4224) ⌝ }
+    ensures { λ _. ⌜ (heldIn (recipeOf (now (r .entry))) (now (u .exit)) ≡ placesOf (recipeOf (now (r .entry))) (now (m .entry))) × ((e : ℕ) → e < recipeOf (now (r .entry)) .exprs → ConstantAs (now (u .exit)) e (recipeOf (now (r .entry)) .exprAt e)) × (length (now (u .exit)) ≡ 2112) ⌝ }
 {
     let vars = tables::half_at(r, 10);
     let cells = tables::half_at(r, 12);
@@ -224,19 +247,18 @@ pub fn load(r: &[u8], m: &[u8], u: &mut [u32; 4224])
     load_constants(r, u);
 }
 
-pub fn write_back(u: &[u32; 4224], count: usize, m: &mut [u8])
-    requires { ⌜ (count ≤ 1088) × (length (now m) ≡ 5 * count) × ((i : ℕ) → i < count → getD (now u) (2112 + i) 0 < 256) ⌝ }
+pub fn write_back(u: &[u64; 2112], count: usize, m: &mut [u8])
+    requires { ⌜ (count ≤ 1088) × (length (now m) ≡ 5 * count) × ((i : ℕ) → i < count → getD (now u) i 0 / 4294967296 < 256) ⌝ }
     ensures { λ _. ⌜ now (m .exit) ≡ placeBytes (heldFrom (now (u .entry)) 0 count) ⌝ }
 {
     for i in 0..count {
-        let w = u[i];
-        let g = u[2112 + i];
+        let x = u[i];
         memory::put_place(
             m,
             i,
             Place {
-                value: w,
-                tag: g as u8,
+                value: (x % 4294967296) as u32,
+                tag: (x / 4294967296) as u8,
             },
         );
     }

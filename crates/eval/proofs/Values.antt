@@ -1,14 +1,16 @@
--- The value of an expression follows from its entries in the tables and its operands' packed answers. Assumes nothing.
-use Prim.Native.Nat.{ℕ, _+_, _*_, _<_, _≤_}
+-- The value of an expression follows from its record in the tables and its operands' answers. Assumes nothing.
+use Prim.Native.Nat.{ℕ, zero, suc, _+_, _-_, _*_, _<_, _≤_}
 use native.Mathlib.Omega.{arith}
-use mathlib.Core.Path.{_≡_, refl, ap, _∙_}
-use mathlib.Core.Bool.{Bool, true, false}
-use mathlib.Core.List.{List}
+use mathlib.Core.Path.{_≡_, refl, sym, ap, _∙_}
+use mathlib.Core.Bool.{Bool, true, false, false≢true}
+use mathlib.Core.List.{List, [], _∷_}
 use lib.Dec.{ltb}
 use lib.ListN.{getD}
 use borrow.Author.Tests.{ltb-true}
 use Rattle.rules.specs.declared.UnaryOp.{UnaryOp}
+use Rattle.rules.specs.declared.UnaryOp.the-variants.{Negate, Not, Absolute}
 use Rattle.rules.specs.declared.BinaryOp.{BinaryOp}
+use Rattle.rules.specs.declared.BinaryOp.the-variants.{Add, Sub, Mul, Div, Rem, Less, LessEq, Equal, NotEqual}
 use Rattle.rules.specs.declared.Expr.{Expr}
 use Rattle.rules.specs.declared.Expr.the-variants.{Constant, Variable, Cell, Unary, Binary, BadExpr}
 use Rattle.rules.specs.declared.Stop.{Stop}
@@ -17,6 +19,7 @@ use Rattle.rules.specs.declared.Place.{Place}
 use Rattle.rules.specs.declared.Valued.{Valued}
 use Rattle.rules.specs.declared.Valued.the-variants.{Value, Fault}
 use Rattle.rules.specs.Bytes.{byte}
+use Rattle.rules.specs.Checks.{_and_}
 use Rattle.rules.specs.Policy.{Policy, policyOf}
 use Rattle.rules.specs.Recipe.{Recipe, recipeOf}
 use Rattle.rules.specs.Memory.{Memory, valueOf, tagOf, count}
@@ -24,16 +27,12 @@ use Rattle.rules.specs.Steps.{given, unaryOf, binaryOf, cellOf, valueBy}
 use Rattle.rules.specs.Accepted.{ExprOk}
 use Rattle.rules.proofs.Depth.{eval-is}
 use Rattle.rules.proofs.Standing.{proper}
-use Rattle.layout.specs.Tables.{operatorOf, leftOf, rightOf, unaryNumber, binaryNumber}
+use Rattle.layout.specs.Tables.{leaf, placeOf, flat, codeOf, operandOf, operatorOf, leftOf, rightOf, unaryNumber, binaryNumber, unaryFrom, binaryFrom}
 use Rattle.layout.specs.Places.{placeIn, heldIn, ConstantAs, Ready, valueIn}
 use Rattle.layout.specs.Answers.{answerOf}
 use Rattle.layout.proofs.Places.{place-held, sound-ready, places-ready}
-use Rattle.layout.proofs.Answers.{unary-back, unary-range, binary-back, binary-range, Answer, worth, failed, answers}
-use Rattle.eval.specs.Packed.{wordIn, tagIn, unaryIn, binaryIn, cellIn, cellPlace, CellAsked}
-
--- an operator's number is not that of a leaf
-pub compound : {k : ℕ} → (k ≡ 0 → ⊥) → 0 < k
-compound n = omega (arith, n)
+use Rattle.layout.proofs.Answers.{unary-range, binary-range, Answer, worth, failed, answers}
+use Rattle.eval.specs.Packed.{wordIn, tagIn, unaryIn, binaryIn, cellIn, cellPlace, CellAsked, appliedIn, Applies}
 
 module _ {r p t u : List ℕ} (a : Ready r p t u) where
   abbrev P : Policy
@@ -45,102 +44,202 @@ module _ {r p t u : List ℕ} (a : Ready r p t u) where
   abbrev held : Memory
   held = heldIn R u
 
-  -- ---- an expression's entries: operator k, first operand or place l, second operand m, and its value o
+  -- ---- operators by their numbers
 
-  record Leaf (k l : ℕ) (o : Valued) : Type 0 where
-    number : k ≡ 0
+  -- the operator of number k on values
+  abbrev opOf : (k : ℕ) → (o v : Valued) → Valued
+  opOf k o v = getD (o ∷ cellOf P R held o ∷ unaryOf Negate o ∷ unaryOf Not o ∷ unaryOf Absolute o ∷ []) k (binaryOf P (binaryFrom k) o v)
+
+  unary-op : (op : UnaryOp) (o v : Valued) → opOf (unaryNumber op) o v ≡ unaryOf op o
+  unfolding unaryNumber
+  unary-op Negate o v = refl
+  unary-op Not o v = refl
+  unary-op Absolute o v = refl
+
+  binary-op : (op : BinaryOp) (o v : Valued) → opOf (binaryNumber op) o v ≡ binaryOf P op o v
+  unfolding binaryNumber binaryFrom
+  binary-op Add o v = refl
+  binary-op Sub o v = refl
+  binary-op Mul o v = refl
+  binary-op Div o v = refl
+  binary-op Rem o v = refl
+  binary-op Less o v = refl
+  binary-op LessEq o v = refl
+  binary-op Equal o v = refl
+  binary-op NotEqual o v = refl
+
+  -- a fault of an operand is the fault of the whole
+  left-lost : (k : ℕ) → 1 ≤ k → (h : Stop) (v : Valued) → opOf k (Fault h) v ≡ Fault h
+  left-lost zero l h v = absurd (omega arith)
+  left-lost (suc zero) l h v = refl
+  left-lost (suc (suc zero)) l h v = refl
+  left-lost (suc (suc (suc zero))) l h v = refl
+  left-lost (suc (suc (suc (suc zero)))) l h v = refl
+  left-lost (suc (suc (suc (suc (suc k))))) l h v = refl
+
+  right-lost : (k : ℕ) → 5 ≤ k → (q : Place) (h : Stop) → opOf k (Value q) (Fault h) ≡ Fault h
+  right-lost zero l q h = absurd (omega arith)
+  right-lost (suc zero) l q h = absurd (omega arith)
+  right-lost (suc (suc zero)) l q h = absurd (omega arith)
+  right-lost (suc (suc (suc zero))) l q h = absurd (omega arith)
+  right-lost (suc (suc (suc (suc zero)))) l q h = absurd (omega arith)
+  right-lost (suc (suc (suc (suc (suc k))))) l q h = refl
+
+  -- ---- leaves
+
+  -- expression e is a leaf, at place l
+  record LeafAt (e l : ℕ) : Type 0 where
     there : l < 2112
-    is : o ≡ Value (placeIn u l)
+    good : tagIn (getD u l 0) < byte p 6
+    is : valueIn r p u e ≡ Value (placeIn u l)
 
-  record CellAt (e k l : ℕ) (o : Valued) : Type 0 where
-    number : k ≡ 1
-    lower : l < e
-    is : o ≡ cellOf P R held (valueIn r p u l)
+  leaf-of : (e : ℕ) (x : Expr) → e < R .exprs → ExprOk (R .vars) e x → ConstantAs u e x
+      → valueIn r p u e ≡ valueBy P R held (λ i. valueIn r p u i) x → leaf x ≡ true → LeafAt e (placeOf e x)
+  unfolding tagOf
+  leaf-of e (Constant w) there ok c v q =
+      let tag : tagIn (getD u (1088 + e) 0) ≡ 0 = ap tagOf c in
+      record {
+        there = omega (arith, a .recipe .counts .few-exprs);
+        good = rw tag (a .policy .some-tag);
+        is = v ∙ ap Value (sym c);
+      }
+  leaf-of e (Variable x) there ok c v q =
+      let low : x < count R = omega arith in
+      record {
+        there = omega (arith, a .recipe .counts .few-vars);
+        good = a .tags-below x low;
+        is = v ∙ ap Value (place-held R u x low);
+      }
+  leaf-of e (Cell i) there ok c v q = absurd (false≢true q)
+  leaf-of e (Unary op i) there ok c v q = absurd (false≢true q)
+  leaf-of e (Binary op i j) there ok c v q = absurd (false≢true q)
+  leaf-of e BadExpr there ok c v q = absurd ok
 
-  record UnaryAt (e k l : ℕ) (o : Valued) : Type 0 where
-    op : UnaryOp
-    number : k ≡ unaryNumber op
-    lower : l < e
-    is : o ≡ unaryOf op (valueIn r p u l)
+  module _ (e : ℕ) (there : e < R .exprs) where
+    ok-at : ExprOk (R .vars) e (R .exprAt e)
+    ok-at = a .recipe .ordered .exprs-ok e there
 
-  record BinaryAt (e k l m : ℕ) (o : Valued) : Type 0 where
-    op : BinaryOp
-    number : k ≡ binaryNumber op
+    value-at : valueIn r p u e ≡ valueBy P R held (λ i. valueIn r p u i) (R .exprAt e)
+    value-at = eval-is P R (a .recipe .ordered .exprs-ok) held e there
+
+    leaf-at : leaf (R .exprAt e) ≡ true → LeafAt e (placeOf e (R .exprAt e))
+    leaf-at = leaf-of e (R .exprAt e) there ok-at (a .constants e there) value-at
+
+  -- ---- a record: code k, left l and right m, for an expression of value o
+
+  record Flat (k l m : ℕ) (o : Valued) : Type 0 where
+    few : k < 14
+    left-there : l < 2112
+    right-there : m < 2112
+    left-good : tagIn (getD u l 0) < byte p 6
+    right-good : 5 ≤ k → tagIn (getD u m 0) < byte p 6
+    is : o ≡ opOf k (Value (placeIn u l)) (Value (placeIn u m))
+
+  record Deep (e k l m : ℕ) (o : Valued) : Type 0 where
+    some : 17 ≤ k
+    few : k < 30
     lower : l < e
-    right-lower : m < e
-    is : o ≡ binaryOf P op (valueIn r p u l) (valueIn r p u m)
+    right-lower : 21 ≤ k → m < e
+    is : o ≡ opOf (k - 16) (valueIn r p u l) (valueIn r p u m)
 
   data Kind (e k l m : ℕ) (o : Valued) : Type 0 where
-    leaf : Leaf k l o → Kind e k l m o
-    cell : CellAt e k l o → Kind e k l m o
-    unary : UnaryAt e k l o → Kind e k l m o
-    binary : BinaryAt e k l m o → Kind e k l m o
+    flat-kind : Flat k l m o → Kind e k l m o
+    deep-kind : Deep e k l m o → Kind e k l m o
 
-  kind-of : (e : ℕ) (x : Expr) {k l m : ℕ} {o : Valued} → e < R .exprs → ExprOk (R .vars) e x → ConstantAs u e x
-      → k ≡ operatorOf x → l ≡ leftOf e x → m ≡ rightOf x
-      → o ≡ valueBy P R held (λ i. valueIn r p u i) x → Kind e k l m o
-  kind-of e (Constant w) there ok c k l m v =
-      let few = a .recipe .counts .few-exprs in
-      let at : 2112 + (1088 + e) ≡ 3200 + e = omega arith in
-      let tag : getD u (2112 + (1088 + e)) 0 ≡ 0 = rw at (c .1) in
-      rw (l) (leaf (record { number = k; there = omega arith; is = rw (c .0, tag) v }))
-  kind-of e (Variable x) there ok c k l m v =
-      let few = a .recipe .counts .few-vars in
-      let held-there : x < count R = omega arith in
-      let place = place-held R u x held-there in
-      rw (l) (leaf (record { number = k; there = omega arith; is = v ∙ ap Value place }))
-  kind-of e (Cell i) there ok c k l m v = rw (l) (cell (record { number = k; lower = ok; is = v }))
-  kind-of e (Unary op i) there ok c k l m v = rw (l) (unary (record { op = op; number = k; lower = ok; is = v }))
+  module _ {e k l m : ℕ} (there : e < R .exprs) where
+    none : {d : ℕ} → LeafAt e d → k ≡ 0 → l ≡ d → m ≡ 0 → Kind e k l m (valueIn r p u e)
+    none x k l m =
+        rw (k, l, m) (flat-kind (record {
+          few = omega arith;
+          left-there = x .there;
+          right-there = omega arith;
+          left-good = x .good;
+          right-good = λ z. absurd (omega arith);
+          is = x .is;
+        }))
+
+    one : (n i : ℕ) {o : Valued} → i < e → 1 ≤ n → n < 5 → (b : Bool) → leaf (R .exprAt i) ≡ b → k ≡ codeOf b n → l ≡ operandOf R b i → m ≡ 0
+        → ((v : Valued) → o ≡ opOf n (valueIn r p u i) v) → Kind e k l m o
+    one n i h f g true q k l m v =
+        let x = leaf-at i (omega arith) q in
+        rw (k, l, m) (flat-kind (record {
+          few = omega arith;
+          left-there = x .there;
+          right-there = omega arith;
+          left-good = x .good;
+          right-good = λ z. absurd (omega arith);
+          is = rw (x .is) at (v (Value (placeIn u 0)));
+        }))
+    one n i h f g false q k l m v =
+        let back : 16 + n - 16 ≡ n = omega arith in
+        rw (k, l, m) (deep-kind (record {
+          some = omega arith;
+          few = omega arith;
+          lower = h;
+          right-lower = λ z. absurd (omega arith);
+          is = rw back (v (valueIn r p u 0));
+        }))
+
+    apart : (n i j : ℕ) {o : Valued} → i < e → j < e → 5 ≤ n → n < 14 → k ≡ 16 + n → l ≡ i → m ≡ j
+        → o ≡ opOf n (valueIn r p u i) (valueIn r p u j) → Kind e k l m o
+    apart n i j h d f g k l m v =
+        let back : 16 + n - 16 ≡ n = omega arith in
+        rw (k, l, m) (deep-kind (record {
+          some = omega arith;
+          few = omega arith;
+          lower = h;
+          right-lower = λ z. d;
+          is = rw back v;
+        }))
+
+    two : (n i j : ℕ) {o : Valued} → i < e → j < e → 5 ≤ n → n < 14 → (b c : Bool) → leaf (R .exprAt i) ≡ b → leaf (R .exprAt j) ≡ c
+        → k ≡ codeOf (b and c) n → l ≡ operandOf R (b and c) i → m ≡ operandOf R (b and c) j
+        → o ≡ opOf n (valueIn r p u i) (valueIn r p u j) → Kind e k l m o
+    unfolding _and_
+    two n i j h d f g true true q s k l m v =
+        let x = leaf-at i (omega arith) q in
+        let y = leaf-at j (omega arith) s in
+        rw (k, l, m) (flat-kind (record {
+          few = omega arith;
+          left-there = x .there;
+          right-there = y .there;
+          left-good = x .good;
+          right-good = λ z. y .good;
+          is = rw (x .is, y .is) at v;
+        }))
+    two n i j h d f g true false q s k l m v = apart n i j h d f g k l m v
+    two n i j h d f g false c q s k l m v = apart n i j h d f g k l m v
+
+  kind-of : (e : ℕ) (x : Expr) {k l m : ℕ} → e < R .exprs → ExprOk (R .vars) e x → ConstantAs u e x
+      → k ≡ codeOf (flat R x) (operatorOf x) → l ≡ leftOf R e x → m ≡ rightOf R x
+      → valueIn r p u e ≡ valueBy P R held (λ i. valueIn r p u i) x → Kind e k l m (valueIn r p u e)
+  kind-of e (Constant w) there ok c k l m v = none there (leaf-of e (Constant w) there ok c v refl) k l m
+  kind-of e (Variable x) there ok c k l m v = none there (leaf-of e (Variable x) there ok c v refl) k l m
+  kind-of e (Cell i) there ok c k l m v = one there 1 i ok (omega arith) (omega arith) (leaf (R .exprAt i)) refl k l m (λ w. v)
+  kind-of e (Unary op i) there ok c k l m v =
+      let range = unary-range op in
+      one there (unaryNumber op) i ok (omega (arith, range)) (range .1) (leaf (R .exprAt i)) refl k l m (λ w. v ∙ sym (unary-op op (valueIn r p u i) w))
   kind-of e (Binary op i j) there ok c k l m v =
-      rw (l, m) (binary (record { op = op; number = k; lower = ok .0; right-lower = ok .1; is = v }))
+      let range = binary-range op in
+      two there (binaryNumber op) i j (ok .0) (ok .1) (range .0) (range .1) (leaf (R .exprAt i)) (leaf (R .exprAt j)) refl refl k l m
+      (v ∙ sym (binary-op op (valueIn r p u i) (valueIn r p u j)))
   kind-of e BadExpr there ok c k l m v = absurd ok
 
   kind : (e : ℕ) → e < R .exprs → Kind e (getD t (4 * e) 0) (getD t (4 * e + 1) 0) (getD t (4 * e + 2) 0) (valueIn r p u e)
   kind e there =
       let x = a .decoded .exprs-as e there in
-      let ok = a .recipe .ordered .exprs-ok in
-      kind-of e (R .exprAt e) there (ok e there) (a .constants e there) (x .operator) (x .left) (x .right) (eval-is P R ok held e there)
-
-  -- ---- the kind by the operator's number
+      kind-of e (R .exprAt e) there (ok-at e there) (a .constants e there) (x .code) (x .left) (x .right) (value-at e there)
 
   module _ {e k l m : ℕ} {o : Valued} where
-    is-leaf : Kind e k l m o → k ≡ 0 → Leaf k l o
-    is-leaf (leaf x) q = x
-    is-leaf (cell x) q = absurd (omega (arith, x .number))
-    is-leaf (unary x) q = absurd (omega (arith, x .number, unary-range (x .op) .0))
-    is-leaf (binary x) q = absurd (omega (arith, x .number, binary-range (x .op) .0))
+    is-flat : Kind e k l m o → k < 16 → Flat k l m o
+    is-flat (flat-kind x) h = x
+    is-flat (deep-kind x) h = absurd (omega (arith, x .some))
 
-    is-cell : Kind e k l m o → k ≡ 1 → CellAt e k l o
-    is-cell (leaf x) q = absurd (omega (arith, x .number))
-    is-cell (cell x) q = x
-    is-cell (unary x) q = absurd (omega (arith, x .number, unary-range (x .op) .0))
-    is-cell (binary x) q = absurd (omega (arith, x .number, binary-range (x .op) .0))
+    is-deep : Kind e k l m o → 16 ≤ k → Deep e k l m o
+    is-deep (flat-kind x) h = absurd (omega (arith, x .few))
+    is-deep (deep-kind x) h = x
 
-    is-unary : Kind e k l m o → 2 ≤ k → k < 5 → UnaryAt e k l o
-    is-unary (leaf x) b q = absurd (omega (arith, x .number))
-    is-unary (cell x) b q = absurd (omega (arith, x .number))
-    is-unary (unary x) b q = x
-    is-unary (binary x) b q = absurd (omega (arith, x .number, binary-range (x .op) .0))
-
-    is-binary : Kind e k l m o → 5 ≤ k → BinaryAt e k l m o
-    is-binary (leaf x) q = absurd (omega (arith, x .number))
-    is-binary (cell x) q = absurd (omega (arith, x .number))
-    is-binary (unary x) q = absurd (omega (arith, x .number, unary-range (x .op) .1))
-    is-binary (binary x) q = x
-
-    lower-of : Kind e k l m o → 0 < k → l < e
-    lower-of (leaf x) n = absurd (omega (arith, x .number))
-    lower-of (cell x) n = x .lower
-    lower-of (unary x) n = x .lower
-    lower-of (binary x) n = x .lower
-
-    small-of : Kind e k l m o → e ≤ 1024 → l < 2112
-    small-of (leaf x) n = x .there
-    small-of (cell x) n = omega (arith, x .lower)
-    small-of (unary x) n = omega (arith, x .lower)
-    small-of (binary x) n = omega (arith, x .lower)
-
-  -- ---- packed answers
+  -- ---- answers
 
   record Faulty (o : Valued) : Type 0 where
     stop : Stop
@@ -161,34 +260,30 @@ module _ {r p t u : List ℕ} (a : Ready r p t u) where
   is-worth (worth {p = v} s w g ok) l = record { place = v; is = refl; word = w; tag = g; good = ok .good }
   is-worth (failed s q) l = absurd (omega arith)
 
-  small-worth : {x : ℕ} {v : Place} → Answer P x (Value v) → x < 9223372036854775808
-  small-worth (worth s w g ok) = s
-
   answer-of : (i : ℕ) {x : ℕ} → x ≡ answerOf (valueIn r p u i) → Answer P x (valueIn r p u i)
   answer-of i q = answers (a .policy .few-tags) (proper (sound-ready a) (places-ready a) i) q
+
+  place-worth : (l : ℕ) → tagIn (getD u l 0) < byte p 6 → Worthy (getD u l 0) (Value (placeIn u l))
+  unfolding valueOf tagOf
+  place-worth l h = record { place = placeIn u l; is = refl; word = refl; tag = refl; good = h }
 
   -- the join's table has a row and a column for every tag
   few-tag : {b : ℕ} → b < byte p 6 → b < 16
   few-tag l = omega (arith, a .policy .few-tags)
 
-  tag-below : (i : ℕ) {x : ℕ} → x ≡ answerOf (valueIn r p u i) → x < 9223372036854775808 → tagIn x < byte p 6
-  tag-below i q l =
-      let v = is-worth (answer-of i q) l in
-      rw (v .tag) (v .good)
-
-  pub tag-few : (i : ℕ) {x : ℕ} → x ≡ answerOf (valueIn r p u i) → x < 9223372036854775808 → tagIn x < 16
-  tag-few i q l = few-tag (tag-below i q l)
+  tag-of : {x : ℕ} {o : Valued} → Worthy x o → tagIn x < byte p 6
+  tag-of v = rw (v .tag) (v .good)
 
   cell-in : (i : ℕ) → i < getD t 8465 0 → getD t 8464 0 + i < count R
   cell-in i l = omega (arith, a .decoded .vars-as, a .decoded .cells-as)
 
-  pub cell-asked : (i : ℕ) {x : ℕ} → x ≡ answerOf (valueIn r p u i) → x < 9223372036854775808 → CellAsked t u x
-  cell-asked i {x} q s =
+  cell-asked : {x : ℕ} {o : Valued} → Worthy x o → CellAsked t u x
+  cell-asked {x} v =
       let few = a .recipe .counts in
       record {
         few = omega (arith, a .decoded .cells-as, few .few-cells);
         inside = λ l. omega (arith, cell-in (wordIn x) l, few .few-vars, few .few-cells);
-        tags = λ l. (few-tag (a .tags-below (cellPlace t x) (cell-in (wordIn x) l)), tag-few i q s);
+        tags = λ l. (few-tag (a .tags-below (cellPlace t x) (cell-in (wordIn x) l)), few-tag (tag-of v));
       }
 
   -- ---- the operators on worthy answers
@@ -207,79 +302,114 @@ module _ {r p t u : List ℕ} (a : Ready r p t u) where
       let l : i < count R = omega (arith, ltb-true (valueOf (v .place)) (R .cells) q) in
       rw (place-held R u i l, d .joins-as _ _ (a .tags-below i l) (v .good))))
 
-  on-unary : {k x : ℕ} {o : Valued} (op : UnaryOp) → k ≡ unaryNumber op → Worthy x o → unaryIn k x ≡ answerOf (unaryOf op o)
-  on-unary op n v = rw (v .is, n, unary-back op, v .word, v .tag)
+  on-unary : (k : ℕ) {x : ℕ} {o : Valued} → Worthy x o → unaryIn k x ≡ answerOf (unaryOf (unaryFrom k) o)
+  on-unary k v = rw (v .is, v .word, v .tag)
 
-  on-binary : {k x y : ℕ} {o v : Valued} (op : BinaryOp) → k ≡ binaryNumber op → Worthy x o → Worthy y v → binaryIn t k x y ≡ answerOf (binaryOf P op o v)
-  on-binary op n v w =
-      rw (v .is, w .is, n, binary-back op, v .word, v .tag, w .word, w .tag, a .decoded .joins-as _ _ (v .good) (w .good))
+  on-binary : (k : ℕ) {x y : ℕ} {o v : Valued} → Worthy x o → Worthy y v → binaryIn t k x y ≡ answerOf (binaryOf P (binaryFrom k) o v)
+  on-binary k v w = rw (v .is, w .is, v .word, v .tag, w .word, w .tag, a .decoded .joins-as _ _ (v .good) (w .good))
+
+  whole : {x : ℕ} {o : Valued} → Worthy x o → x ≡ answerOf o
+  whole v = rw (v .is) (omega (arith, v .word, v .tag))
+
+  on-op : (k : ℕ) {x y : ℕ} {o v : Valued} → Worthy x o → (5 ≤ k → Worthy y v) → appliedIn t u k x y ≡ answerOf (opOf k o v)
+  unfolding appliedIn unaryFrom
+  on-op zero x y = whole x
+  on-op (suc zero) x y = on-cell x
+  on-op (suc (suc zero)) x y = on-unary 2 x
+  on-op (suc (suc (suc zero))) x y = on-unary 3 x
+  on-op (suc (suc (suc (suc zero)))) x y = on-unary 4 x
+  on-op (suc (suc (suc (suc (suc k))))) x y = on-binary (suc (suc (suc (suc (suc k))))) x (y (omega arith))
+
+  asks : {k x y : ℕ} {o v : Valued} → k < 14 → Worthy x o → (5 ≤ k → Worthy y v) → Applies t u k x y
+  asks few x y = record { few = few; cell = λ q. cell-asked x; tags = λ h. (few-tag (tag-of x), few-tag (tag-of (y h))) }
 
   -- ---- expression e
 
   module _ (e : ℕ) (there : e < R .exprs) where
-    pub leaf-there : getD t (4 * e) 0 ≡ 0 → getD t (4 * e + 1) 0 < 2112
-    leaf-there q = is-leaf (kind e there) q .there
+    abbrev code : ℕ
+    code = getD t (4 * e) 0
 
-    pub leaf-value : getD t (4 * e) 0 ≡ 0 → {z : ℕ} → z ≡ answerOf (Value (placeIn u (getD t (4 * e + 1) 0))) → z ≡ answerOf (valueIn r p u e)
-    leaf-value q f =
-        let x = is-leaf (kind e there) q in
-        rw (x .is) f
+    abbrev left : ℕ
+    left = getD t (4 * e + 1) 0
 
-    pub leaf-small : getD t (4 * e) 0 ≡ 0 → {z : ℕ} → z ≡ answerOf (valueIn r p u e) → z < 9223372036854775808
-    leaf-small q f =
-        let x = is-leaf (kind e there) q in
-        small-worth (rw (x .is) at (answer-of e f))
+    abbrev right : ℕ
+    right = getD t (4 * e + 2) 0
 
-    pub left-lower : 0 < getD t (4 * e) 0 → getD t (4 * e + 1) 0 < e
-    left-lower n = lower-of (kind e there) n
+    module _ (h : code < 16) where
+      abbrev shape : Flat code left right (valueIn r p u e)
+      shape = is-flat (kind e there) h
 
-    pub left-there : 0 < getD t (4 * e) 0 → getD t (4 * e + 1) 0 < R .exprs
-    left-there n = omega (arith, left-lower n, there)
+      pub left-place : left < 2112
+      left-place = shape .left-there
 
-    pub left-small : getD t (4 * e + 1) 0 < 2112
-    left-small = small-of (kind e there) (omega (arith, there, a .recipe .counts .few-exprs))
+      pub right-place : right < 2112
+      right-place = shape .right-there
 
-    pub right-lower : 5 ≤ getD t (4 * e) 0 → getD t (4 * e + 2) 0 < e
-    right-lower n = is-binary (kind e there) n .right-lower
+      left-worth : Worthy (getD u left 0) (Value (placeIn u left))
+      left-worth = place-worth left (shape .left-good)
 
-    pub right-there : 5 ≤ getD t (4 * e) 0 → getD t (4 * e + 2) 0 < R .exprs
-    right-there n = omega (arith, right-lower n, there)
+      right-worth : 5 ≤ code → Worthy (getD u right 0) (Value (placeIn u right))
+      right-worth b = place-worth right (shape .right-good b)
 
-    pub binary-few : 5 ≤ getD t (4 * e) 0 → getD t (4 * e) 0 < 14
-    binary-few n =
-        let x = is-binary (kind e there) n in
-        rw (x .number) (binary-range (x .op) .1)
+      pub flat-asks : Applies t u code (getD u left 0) (getD u right 0)
+      flat-asks = asks (shape .few) left-worth right-worth
 
-    module _ {x : ℕ} (f : x ≡ answerOf (valueIn r p u (getD t (4 * e + 1) 0))) where
-      left-fault-by : {k l m : ℕ} {o : Valued} → Kind e k l m o → 0 < k → Faulty (valueIn r p u l) → x ≡ answerOf (valueIn r p u l) → x ≡ answerOf o
-      left-fault-by (leaf y) n w q = absurd (omega (arith, y .number))
-      left-fault-by (cell y) n w q = rw (y .is, w .is) (rw (w .is) at q)
-      left-fault-by (unary y) n w q = rw (y .is, w .is) (rw (w .is) at q)
-      left-fault-by (binary y) n w q = rw (y .is, w .is) (rw (w .is) at q)
+      pub flat-value : {z : ℕ} → z ≡ appliedIn t u code (getD u left 0) (getD u right 0) → z ≡ answerOf (valueIn r p u e)
+      flat-value q = rw (shape .is) (q ∙ on-op code left-worth right-worth)
 
-      pub left-fault : 0 < getD t (4 * e) 0 → 9223372036854775808 ≤ x → x ≡ answerOf (valueIn r p u e)
-      left-fault n h = left-fault-by (kind e there) n (is-fault (answer-of _ f) h) f
+    module _ (h : 16 ≤ code) where
+      abbrev form : Deep e code left right (valueIn r p u e)
+      form = is-deep (kind e there) h
 
-      module _ (s : x < 9223372036854775808) where
-        left-worth : Worthy x (valueIn r p u (getD t (4 * e + 1) 0))
-        left-worth = is-worth (answer-of _ f) s
+      pub code-few : code < 30
+      code-few = form .few
 
-        pub cell-value : getD t (4 * e) 0 ≡ 1 → {z : ℕ} → z ≡ cellIn t u x → z ≡ answerOf (valueIn r p u e)
-        cell-value n q = rw (is-cell (kind e there) n .is) (q ∙ on-cell left-worth)
+      pub left-lower : left < e
+      left-lower = form .lower
 
-        pub unary-value : 2 ≤ getD t (4 * e) 0 → getD t (4 * e) 0 < 5 → {z : ℕ} → z ≡ unaryIn (getD t (4 * e) 0) x → z ≡ answerOf (valueIn r p u e)
-        unary-value b n q =
-            let y = is-unary (kind e there) b n in
-            rw (y .is) (q ∙ on-unary (y .op) (y .number) left-worth)
+      pub left-there : left < R .exprs
+      left-there = omega (arith, left-lower, there)
 
-        module _ (n : 5 ≤ getD t (4 * e) 0) {y : ℕ} (g : y ≡ answerOf (valueIn r p u (getD t (4 * e + 2) 0))) where
-          pub right-fault : 9223372036854775808 ≤ y → y ≡ answerOf (valueIn r p u e)
-          right-fault h =
-              let b = is-binary (kind e there) n in
-              let w = is-fault (answer-of _ g) h in
-              rw (b .is, left-worth .is, w .is) (rw (w .is) at g)
+      pub right-lower : 5 ≤ code - 16 → right < e
+      right-lower b = form .right-lower (omega arith)
 
-          pub binary-value : y < 9223372036854775808 → {z : ℕ} → z ≡ binaryIn t (getD t (4 * e) 0) x y → z ≡ answerOf (valueIn r p u e)
-          binary-value h q =
-              let b = is-binary (kind e there) n in
-              rw (b .is) (q ∙ on-binary (b .op) (b .number) left-worth (is-worth (answer-of _ g) h))
+      pub right-there : 5 ≤ code - 16 → right < R .exprs
+      right-there b = omega (arith, right-lower b, there)
+
+      module _ {x : ℕ} (f : x ≡ answerOf (valueIn r p u left)) where
+        pub left-fault : 9223372036854775808 ≤ x → x ≡ answerOf (valueIn r p u e)
+        left-fault b =
+            let w = is-fault (answer-of _ f) b in
+            let q = left-lost (code - 16) (omega (arith, form .some)) (w .stop) (valueIn r p u right) in
+            rw (form .is, w .is, q) (rw (w .is) at f)
+
+        module _ (s : x < 9223372036854775808) where
+          first : Worthy x (valueIn r p u left)
+          first = is-worth (answer-of _ f) s
+
+          module _ (b : code - 16 < 5) (y : ℕ) where
+            no-second : 5 ≤ code - 16 → Worthy y (valueIn r p u right)
+            no-second c = absurd (omega arith)
+
+            pub one-asks : Applies t u (code - 16) x y
+            one-asks = asks (omega (arith, code-few)) first no-second
+
+            pub one-value : {z : ℕ} → z ≡ appliedIn t u (code - 16) x y → z ≡ answerOf (valueIn r p u e)
+            one-value q = rw (form .is) (q ∙ on-op (code - 16) first no-second)
+
+          module _ (b : 5 ≤ code - 16) {y : ℕ} (g : y ≡ answerOf (valueIn r p u right)) where
+            pub right-fault : 9223372036854775808 ≤ y → y ≡ answerOf (valueIn r p u e)
+            right-fault c =
+                let w = is-fault (answer-of _ g) c in
+                let q = right-lost (code - 16) b (first .place) (w .stop) in
+                rw (form .is, first .is, w .is, q) (rw (w .is) at g)
+
+            module _ (c : y < 9223372036854775808) where
+              second : Worthy y (valueIn r p u right)
+              second = is-worth (answer-of _ g) c
+
+              pub two-asks : Applies t u (code - 16) x y
+              two-asks = asks (omega (arith, code-few)) first (λ z. second)
+
+              pub two-value : {z : ℕ} → z ≡ appliedIn t u (code - 16) x y → z ≡ answerOf (valueIn r p u e)
+              two-value q = rw (form .is) (q ∙ on-op (code - 16) first (λ z. second))

@@ -1,16 +1,15 @@
 // Evaluation over the decoded tables t and the places u: an expression's value with its tag, or the fault that ends the run, as
-// one word, so that it stays in a register.
+// one word, so that it stays in a register. A place is held as such a word too.
 ghost use mathlib.Core.Path.{_≡_};
 ghost use mathlib.Core.List.{List};
 ghost use Prim.Native.Nat.{ℕ, _+_, _-_, _*_, _/_, _%_, _<_, _≤_};
 ghost use lib.ListN.{getD};
 ghost use Rattle.rules.specs.Recipe.{recipeOf};
 ghost use Rattle.layout.specs.Tables.{joinIn};
-ghost use Rattle.layout.specs.Places.{placeIn, Ready, ExprGiven, valueIn};
+ghost use Rattle.layout.specs.Places.{Ready, ExprGiven, valueIn};
 ghost use Rattle.layout.specs.Answers.{answerOf, stopFrom};
-ghost use Rattle.eval.specs.Packed.{tagIn, unaryIn, binaryIn, cellIn, CellAsked};
+ghost use Rattle.eval.specs.Packed.{tagIn, cellIn, appliedIn, CellAsked, Applies};
 use rules::Stop;
-use rules::Valued;
 
 const FAULT: u64 = 9223372036854775808;
 
@@ -44,7 +43,7 @@ pub fn stop_of(x: u64) -> Stop
     }
 }
 
-fn answer(w: u32, g: u32) -> u64
+pub fn answer(w: u32, g: u32) -> u64
     ensures { λ x. ⌜ x ≡ w + 4294967296 * g ⌝ }
 {
     (w as u64) + 4294967296 * (g as u64)
@@ -66,18 +65,11 @@ pub fn join(t: &[u16; 8466], a: u32, b: u32) -> u32
     wide(t[8192 + 16 * (a as usize) + (b as usize)])
 }
 
-pub fn tag_at(u: &[u32; 4224], i: usize) -> u32
+pub fn tag_at(u: &[u64; 2112], i: usize) -> u32
     requires { ⌜ i < 2112 ⌝ }
-    ensures { λ g. ⌜ g ≡ getD (now (u .entry)) (2112 + i) 0 ⌝ }
+    ensures { λ g. ⌜ g ≡ tagIn (getD (now (u .entry)) i 0) ⌝ }
 {
-    u[2112 + i]
-}
-
-fn place(u: &[u32; 4224], i: usize) -> u64
-    requires { ⌜ i < 2112 ⌝ }
-    ensures { λ x. ⌜ x ≡ answerOf (Valued.Value (placeIn (now (u .entry)) i)) ⌝ }
-{
-    answer(u[i], tag_at(u, i))
+    tag_of(u[i])
 }
 
 // ---- operators
@@ -97,7 +89,7 @@ fn both(t: &[u16; 8466], w: u32, x: u64, y: u64) -> u64
     answer(w, join(t, tag_of(x), tag_of(y)))
 }
 
-fn cell(t: &[u16; 8466], u: &[u32; 4224], x: u64) -> u64
+fn cell(t: &[u16; 8466], u: &[u64; 2112], x: u64) -> u64
     requires { ⌜ CellAsked (now t) (now u) x ⌝ }
     ensures { λ z. ⌜ z ≡ cellIn (now (t .entry)) (now (u .entry)) x ⌝ }
 {
@@ -105,27 +97,22 @@ fn cell(t: &[u16; 8466], u: &[u32; 4224], x: u64) -> u64
         return FAULT + 5;
     }
     let i = (t[8464] as usize) + (word_of(x) as usize);
-    answer(u[i], join(t, tag_at(u, i), tag_of(x)))
+    both(t, word_of(u[i]), u[i], x)
 }
 
-fn unary(k: u16, x: u64) -> u64
-    requires { ⌜ (2 ≤ k) × (k < 5) ⌝ }
-    ensures { λ z. ⌜ z ≡ unaryIn k x ⌝ }
-{
-    match k {
-        2 => one(words::neg(word_of(x)), x),
-        3 => one(words::not(word_of(x)), x),
-        _ => one(words::abs(word_of(x)), x),
-    }
-}
-
-fn binary(t: &[u16; 8466], k: u16, x: u64, y: u64) -> u64
-    requires { ⌜ (5 ≤ k) × (k < 14) × (tagIn x < 16) × (tagIn y < 16) ⌝ }
-    ensures { λ z. ⌜ z ≡ binaryIn (now (t .entry)) k x y ⌝ }
+// The operator of number k on x and, if it has two operands, y. One table, so that one jump finds it.
+fn apply(t: &[u16; 8466], u: &[u64; 2112], k: u16, x: u64, y: u64) -> u64
+    requires { ⌜ Applies (now t) (now u) k x y ⌝ }
+    ensures { λ z. ⌜ z ≡ appliedIn (now (t .entry)) (now (u .entry)) k x y ⌝ }
 {
     let a = word_of(x);
     let b = word_of(y);
     match k {
+        0 => x,
+        1 => cell(t, u, x),
+        2 => one(words::neg(a), x),
+        3 => one(words::not(a), x),
+        4 => one(words::abs(a), x),
         5 => both(t, words::add(a, b), x, y),
         6 => both(t, words::sub(a, b), x, y),
         7 => both(t, words::mul(a, b), x, y),
@@ -150,62 +137,53 @@ fn binary(t: &[u16; 8466], k: u16, x: u64, y: u64) -> u64
 
 // ---- expressions by their numbers
 
-// A leaf is read where it stands: only compound operands cost a call.
-fn operand(t: &[u16; 8466], u: &[u32; 4224], e: usize) -> u64
+// The operands are leaves, named by their places. What has no second operand names place 0 there.
+fn flat(t: &[u16; 8466], u: &[u64; 2112], e: usize) -> u64
+    requires { ⌜ ExprGiven (now t) (now u) e × (getD (now t) (4 * e) 0 < 16) ⌝ }
+    ensures { λ x. ⌜ ((r p : List ℕ) → Ready r p (now (t .entry)) (now (u .entry)) → e < recipeOf r .exprs → x ≡ answerOf (valueIn r p (now (u .entry)) e)) ⌝ }
+{
+    let a = t[4 * e + 1] as usize;
+    let b = t[4 * e + 2] as usize;
+    apply(t, u, t[4 * e], u[a], u[b])
+}
+
+fn operand(t: &[u16; 8466], u: &[u64; 2112], e: usize) -> u64
     requires { ⌜ ExprGiven (now t) (now u) e ⌝ }
     ensures { λ x. ⌜ ((r p : List ℕ) → Ready r p (now (t .entry)) (now (u .entry)) → e < recipeOf r .exprs → x ≡ answerOf (valueIn r p (now (u .entry)) e)) ⌝ }
 {
-    if t[4 * e] == 0 {
-        return place(u, t[4 * e + 1] as usize);
+    if t[4 * e] < 16 {
+        return flat(t, u, e);
     }
     deep(t, u, e)
 }
 
 // Operands have lower numbers than their user, so the expression's own number falls.
-fn deep(t: &[u16; 8466], u: &[u32; 4224], e: usize) -> u64
-    requires { ⌜ ExprGiven (now t) (now u) e × (0 < getD (now t) (4 * e) 0) ⌝ }
+fn deep(t: &[u16; 8466], u: &[u64; 2112], e: usize) -> u64
+    requires { ⌜ ExprGiven (now t) (now u) e × (16 ≤ getD (now t) (4 * e) 0) ⌝ }
     ensures { λ x. ⌜ ((r p : List ℕ) → Ready r p (now (t .entry)) (now (u .entry)) → e < recipeOf r .exprs → x ≡ answerOf (valueIn r p (now (u .entry)) e)) ⌝ }
 {
-    let k = t[4 * e];
+    let k = t[4 * e] - 16;
     let x = operand(t, u, t[4 * e + 1] as usize);
     if FAULT <= x {
         return x;
     }
-    if k == 1 {
-        return cell(t, u, x);
-    }
     if k < 5 {
-        return unary(k, x);
+        return apply(t, u, k, x, x);
     }
     let y = operand(t, u, t[4 * e + 2] as usize);
     if FAULT <= y {
         return y;
     }
-    binary(t, k, x, y)
+    apply(t, u, k, x, y)
 }
 
-// An operator on leaves is the common case: it is worked out here, with no recursion and so no registers to save.
-pub fn value(t: &[u16; 8466], u: &[u32; 4224], e: usize) -> u64
+// The same as operand, but no part of the recursion, so that it costs its callers no saved registers.
+pub fn value(t: &[u16; 8466], u: &[u64; 2112], e: usize) -> u64
     requires { ⌜ ExprGiven (now t) (now u) e ⌝ }
     ensures { λ x. ⌜ ((r p : List ℕ) → Ready r p (now (t .entry)) (now (u .entry)) → e < recipeOf r .exprs → x ≡ answerOf (valueIn r p (now (u .entry)) e)) ⌝ }
 {
-    let k = t[4 * e];
-    let a = t[4 * e + 1] as usize;
-    if k == 0 {
-        return place(u, a);
-    }
-    if t[4 * a] == 0 {
-        let x = place(u, t[4 * a + 1] as usize);
-        if k == 1 {
-            return cell(t, u, x);
-        }
-        if k < 5 {
-            return unary(k, x);
-        }
-        let b = t[4 * e + 2] as usize;
-        if t[4 * b] == 0 {
-            return binary(t, k, x, place(u, t[4 * b + 1] as usize));
-        }
+    if t[4 * e] < 16 {
+        return flat(t, u, e);
     }
     deep(t, u, e)
 }

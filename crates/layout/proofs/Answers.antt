@@ -16,7 +16,7 @@ use Rattle.rules.specs.Memory.{valueOf, tagOf}
 use Rattle.rules.specs.Ends.{stopNumber}
 use Rattle.rules.proofs.Standing.{PlaceOk, Proper, fault, value}
 use Rattle.layout.specs.Tables.{unaryNumber, binaryNumber, unaryFrom, binaryFrom}
-use Rattle.layout.specs.Answers.{answerOf, stopFrom}
+use Rattle.layout.specs.Answers.{answerOf, worthOf, stopFrom}
 
 -- ---- numbers
 
@@ -88,3 +88,10 @@ answers few (value {p} k) e = worth {p = p} (omega (arith, k .good, k .word)) (o
 answers few (fault {h}) {x} e =
     let d : x - 9223372036854775808 ≡ stopNumber h = omega arith in
     failed {h = h} (omega arith) (rw d (stop-back h))
+
+-- a place is read back from its answer
+pub worth-back : (q : Place) → q .value < 2 ^ 32 → worthOf (q .value + 4294967296 * q .tag) ≡ q
+worth-back q small =
+    let v : (q .value + 4294967296 * q .tag) % 4294967296 ≡ q .value = omega arith in
+    let g : (q .value + 4294967296 * q .tag) / 4294967296 ≡ q .tag = omega arith in
+    rw (v, g)

@@ -1,6 +1,6 @@
--- The places while a run lasts: one array of words, values in its first half and their tags 2112 further on. Place i of the
--- memory stands at i, the constant of expression e at 1088 + e, with tag 0. Assumes nothing.
-use Prim.Native.Nat.{ℕ, zero, suc, _+_, _^_, _<_}
+-- The places while a run lasts: one array of answers. Place i of the memory stands at i, the constant of expression e at
+-- 1088 + e, with tag 0. Assumes nothing.
+use Prim.Native.Nat.{ℕ, zero, suc, _+_, _/_, _<_}
 use mathlib.Core.Path.{_≡_}
 use mathlib.Core.List.{List, [], _∷_}
 use lib.ListN.{getD}
@@ -15,9 +15,10 @@ use Rattle.rules.specs.Memory.{Memory, _#_, count}
 use Rattle.rules.specs.Steps.{eval}
 use Rattle.rules.specs.Accepted.{WellFormed, LawfulPolicy, PortsOk}
 use Rattle.layout.specs.Tables.{Decoded}
+use Rattle.layout.specs.Answers.{worthOf}
 
 abbrev pub placeIn : (u : List ℕ) (i : ℕ) → Place
-placeIn u i = getD u i 0 # getD u (2112 + i) 0
+placeIn u i = worthOf (getD u i 0)
 
 unfoldable pub heldFrom : (u : List ℕ) (i n : ℕ) → Memory
 heldFrom u i zero = []
@@ -27,7 +28,7 @@ abbrev pub heldIn : Recipe → List ℕ → Memory
 heldIn R u = heldFrom u 0 (count R)
 
 abbrev pub ConstantAs : (u : List ℕ) (e : ℕ) → Expr → Type 0
-ConstantAs u e (Constant w) = (getD u (1088 + e) 0 ≡ w) × (getD u (3200 + e) 0 ≡ 0)
+ConstantAs u e (Constant w) = placeIn u (1088 + e) ≡ (w # 0)
 ConstantAs u e (Variable x) = Unit {0}
 ConstantAs u e (Cell i) = Unit {0}
 ConstantAs u e (Unary op a) = Unit {0}
@@ -42,8 +43,7 @@ pub record Ready (r p t u : List ℕ) : Type 0 where
   pub ports : PortsOk (recipeOf r) (byte p 7)
   pub decoded : Decoded (policyOf p) (recipeOf r) t
   pub constants : (e : ℕ) → e < recipeOf r .exprs → ConstantAs u e (recipeOf r .exprAt e)
-  pub tags-below : (i : ℕ) → i < count (recipeOf r) → getD u (2112 + i) 0 < byte p 6
-  pub words : (i : ℕ) → i < count (recipeOf r) → getD u i 0 < 2 ^ 32
+  pub tags-below : (i : ℕ) → i < count (recipeOf r) → getD u i 0 / 4294967296 < byte p 6
 
 -- the value of an expression over the places in u
 abbrev pub valueIn : (r p u : List ℕ) → ℕ → Valued

@@ -3,6 +3,7 @@
 -- of cells at 8464 and 8465. Assumes nothing.
 use Prim.Native.Nat.{ℕ, _+_, _-_, _*_, _<_}
 use mathlib.Core.Path.{_≡_}
+use mathlib.Core.Bool.{Bool, true, false}
 use mathlib.Core.List.{List, [], _∷_}
 use lib.ListN.{getD}
 use Rattle.rules.specs.declared.UnaryOp.{UnaryOp}
@@ -13,10 +14,11 @@ use Rattle.rules.specs.declared.Expr.{Expr}
 use Rattle.rules.specs.declared.Expr.the-variants.{Constant, Variable, Cell, Unary, Binary, BadExpr}
 use Rattle.rules.specs.declared.Stmt.{Stmt}
 use Rattle.rules.specs.declared.Stmt.the-variants.{Skip, Assign, Store, Then, If, While, Emit, BadStmt}
+use Rattle.rules.specs.Checks.{_and_}
 use Rattle.rules.specs.Policy.{Policy}
 use Rattle.rules.specs.Recipe.{Recipe}
 
--- ---- an expression: its operator and its operands
+-- ---- an expression: its code and its operands
 
 -- 0 a leaf, 1 a cell, 2 to 4 the unary operators, 5 to 13 the binary ones
 unfoldable pub unaryNumber : UnaryOp → ℕ
@@ -49,27 +51,61 @@ operatorOf (Unary op a) = unaryNumber op
 operatorOf (Binary op a b) = binaryNumber op
 operatorOf BadExpr = 0
 
--- a leaf's place, or the first operand; a constant has a place of its own
-abbrev pub leftOf : (e : ℕ) → Expr → ℕ
-leftOf e (Constant w) = 1088 + e
-leftOf e (Variable x) = x
-leftOf e (Cell i) = i
-leftOf e (Unary op a) = a
-leftOf e (Binary op a b) = a
-leftOf e BadExpr = 0
+-- a leaf has a place; a constant has one of its own
+abbrev pub leaf : Expr → Bool
+leaf (Constant w) = true
+leaf (Variable x) = true
+leaf (Cell i) = false
+leaf (Unary op a) = false
+leaf (Binary op a b) = false
+leaf BadExpr = true
 
-abbrev pub rightOf : Expr → ℕ
-rightOf (Constant w) = 0
-rightOf (Variable x) = 0
-rightOf (Cell i) = 0
-rightOf (Unary op a) = 0
-rightOf (Binary op a b) = b
-rightOf BadExpr = 0
+abbrev pub placeOf : (e : ℕ) → Expr → ℕ
+placeOf e (Constant w) = 1088 + e
+placeOf e (Variable x) = x
+placeOf e (Cell i) = 0
+placeOf e (Unary op a) = 0
+placeOf e (Binary op a b) = 0
+placeOf e BadExpr = 0
 
-pub record ExprAs (t : List ℕ) (e : ℕ) (x : Expr) : Type 0 where
-  pub operator : getD t (4 * e) 0 ≡ operatorOf x
-  pub left : getD t (4 * e + 1) 0 ≡ leftOf e x
-  pub right : getD t (4 * e + 2) 0 ≡ rightOf x
+-- an expression is flat if its operands are leaves
+abbrev pub flat : Recipe → Expr → Bool
+flat R (Constant w) = true
+flat R (Variable x) = true
+flat R (Cell i) = leaf (R .exprAt i)
+flat R (Unary op a) = leaf (R .exprAt a)
+flat R (Binary op a b) = leaf (R .exprAt a) and leaf (R .exprAt b)
+flat R BadExpr = true
+
+-- a flat expression names its operands' places, another one, by a code 16 above its operator's, the operands
+abbrev pub codeOf : (flat : Bool) → ℕ → ℕ
+codeOf true k = k
+codeOf false k = 16 + k
+
+abbrev pub operandOf : Recipe → (flat : Bool) → ℕ → ℕ
+operandOf R true a = placeOf a (R .exprAt a)
+operandOf R false a = a
+
+abbrev pub leftOf : Recipe → (e : ℕ) → Expr → ℕ
+leftOf R e (Constant w) = 1088 + e
+leftOf R e (Variable x) = x
+leftOf R e (Cell i) = operandOf R (flat R (Cell i)) i
+leftOf R e (Unary op a) = operandOf R (flat R (Unary op a)) a
+leftOf R e (Binary op a b) = operandOf R (flat R (Binary op a b)) a
+leftOf R e BadExpr = 0
+
+abbrev pub rightOf : Recipe → Expr → ℕ
+rightOf R (Constant w) = 0
+rightOf R (Variable x) = 0
+rightOf R (Cell i) = 0
+rightOf R (Unary op a) = 0
+rightOf R (Binary op a b) = operandOf R (flat R (Binary op a b)) b
+rightOf R BadExpr = 0
+
+pub record ExprAs (R : Recipe) (t : List ℕ) (e : ℕ) (x : Expr) : Type 0 where
+  pub code : getD t (4 * e) 0 ≡ codeOf (flat R x) (operatorOf x)
+  pub left : getD t (4 * e + 1) 0 ≡ leftOf R e x
+  pub right : getD t (4 * e + 2) 0 ≡ rightOf R x
 
 -- ---- a statement: its kind and what it names
 
@@ -125,7 +161,7 @@ abbrev pub joinIn : (t : List ℕ) (a b : ℕ) → ℕ
 joinIn t a b = getD t (8192 + 16 * a + b) 0
 
 pub record Decoded (P : Policy) (R : Recipe) (t : List ℕ) : Type 0 where
-  pub exprs-as : (e : ℕ) → e < R .exprs → ExprAs t e (R .exprAt e)
+  pub exprs-as : (e : ℕ) → e < R .exprs → ExprAs R t e (R .exprAt e)
   pub stmts-as : (s : ℕ) → s < R .stmts → StmtAs t s (R .stmtAt s)
   pub joins-as : (a b : ℕ) → a < P .tags → b < P .tags → joinIn t a b ≡ P .join a b
   pub clearances-as : (port : ℕ) → port < P .ports → getD t (8448 + port) 0 ≡ P .clearance port

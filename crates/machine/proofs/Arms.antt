@@ -24,8 +24,8 @@ use Rattle.rules.specs.Memory.{Memory, valueOf, tagOf}
 use Rattle.rules.specs.Steps.{allow, assigns, emits, chooses, loops, tests}
 use Rattle.layout.specs.Tables.{joinIn}
 use Rattle.layout.specs.Places.{Ready}
-use Rattle.layout.specs.Answers.{answerOf}
-use Rattle.steps.specs.Asks.{Done, worthOf}
+use Rattle.layout.specs.Answers.{answerOf, worthOf}
+use Rattle.steps.specs.Asks.{Done}
 use Rattle.steps.proofs.Asked.{test-true, test-false, join-is, join-good, clearance-is, clearance-good, lies-under, lies-off}
 
 pub worth-tag : (x : ℕ) {n : ℕ} → x / 4294967296 < n → tagOf (worthOf x) < n

@@ -1,18 +1,16 @@
 -- Accepted tables, decoded, are ready for the run; and what the run leaves, written back, is what document 01 says. Assumes nothing.
-use Prim.Native.Nat.{ℕ, _+_, _*_, _^_, _<_, _≤_}
-use native.Mathlib.Omega.{arith}
+use Prim.Native.Nat.{ℕ, _<_}
 use mathlib.Core.Path.{_≡_, refl, sym, ap, _∙_}
 use mathlib.Core.List.{List}
-use lib.ListN.{length, getD}
+use lib.ListN.{length}
 use Rattle.rules.specs.declared.Expr.{Expr}
 use Rattle.rules.specs.declared.Outcome.{Outcome}
-use Rattle.rules.specs.Bytes.{Bytes, byte}
+use Rattle.rules.specs.Bytes.{Bytes}
 use Rattle.rules.specs.Policy.{policyOf}
 use Rattle.rules.specs.Recipe.{recipeOf}
-use Rattle.rules.specs.Memory.{valueOf, tagOf, placeAt, placesOf, placeBytes, count}
+use Rattle.rules.specs.Memory.{tagOf, placeAt, placesOf, placeBytes, count}
 use Rattle.rules.specs.Judged.{writtenBack, ran}
 use Rattle.rules.specs.Accepted.{Accepted}
-use Rattle.rules.proofs.Bytes.{sound, places-ok}
 use Rattle.layout.specs.Tables.{Decoded}
 use Rattle.layout.specs.Places.{placeIn, heldFrom, heldIn, ConstantAs, Ready}
 use Rattle.layout.proofs.Places.{place-held}
@@ -22,10 +20,10 @@ module _ {r p m : List ℕ} (u : List ℕ) (a : Accepted r p m) (same : heldIn (
   read-back : (i : ℕ) → i < count (recipeOf r) → placeIn u i ≡ placeAt (placesOf (recipeOf r) m) i
   read-back i h = sym (place-held (recipeOf r) u i h) ∙ ap (λ l. placeAt l i) same
 
-  pub loaded : {t : List ℕ} → Bytes r → Bytes m → Decoded (policyOf p) (recipeOf r) t
+  pub loaded : {t : List ℕ} → Bytes r → Decoded (policyOf p) (recipeOf r) t
       → ((e : ℕ) → e < recipeOf r .exprs → ConstantAs u e (recipeOf r .exprAt e)) → Ready r p t u
-  unfolding valueOf tagOf
-  loaded br bm d cs =
+  unfolding tagOf
+  loaded br d cs =
       record {
         bytes = br;
         recipe = a .recipe;
@@ -33,15 +31,8 @@ module _ {r p m : List ℕ} (u : List ℕ) (a : Accepted r p m) (same : heldIn (
         ports = a .ports;
         decoded = d;
         constants = cs;
-        tags-below = tags;
-        words = word;
+        tags-below = λ i h. rw (ap tagOf (read-back i h)) (a .memory .tags-below i h);
       }
-    where
-      tags : (i : ℕ) → i < count (recipeOf r) → getD u (2112 + i) 0 < byte p 6
-      tags i h = rw (ap tagOf (read-back i h)) (a .memory .tags-below i h)
-
-      word : (i : ℕ) → i < count (recipeOf r) → getD u i 0 < 2 ^ 32
-      word i h = rw (ap valueOf (read-back i h)) (places-ok (recipeOf r) (policyOf p) m bm (sound r p m br a .lawful .some-tag) (a .memory) .ok i .word)
 
   pub left-back : {t q u′ q′ m′ : List ℕ} {B n : ℕ} {o : Outcome} → RunAs r p t u q B o u′ q′
       → n ≡ count (recipeOf r) → m′ ≡ placeBytes (heldFrom u′ 0 n) → LeftAs o m′ q′ (writtenBack q (ran r p m (length q) B))

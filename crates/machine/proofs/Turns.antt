@@ -23,6 +23,7 @@ use Rattle.rules.specs.declared.End.{End}
 use Rattle.rules.specs.declared.End.the-variants.{Done, Budget, Stopped}
 use Rattle.rules.specs.Policy.{Policy, policyOf}
 use Rattle.rules.specs.Recipe.{Recipe, recipeOf}
+use Rattle.rules.specs.declared.Valued.the-variants.{Value}
 use Rattle.rules.specs.Memory.{Memory, valueOf, tagOf, count, Record}
 use Rattle.rules.specs.declared.Stmt.{Stmt}
 use Rattle.rules.specs.declared.Stmt.the-variants.{Skip, Assign, Store, Then, If, While, Emit, BadStmt}
@@ -37,9 +38,9 @@ use Rattle.rules.proofs.Reached.{standing-after}
 use Rattle.memory.specs.Layout.{recorded, Holds}
 use Rattle.memory.proofs.Records.{none-held, length-held, more-held}
 use Rattle.layout.specs.Places.{heldIn, Ready}
-use Rattle.layout.specs.Answers.{stopFrom}
+use Rattle.layout.specs.Answers.{answerOf, stopFrom}
 use Rattle.layout.proofs.Places.{held-length, held-write, sound-ready, places-ready, ready-write}
-use Rattle.layout.proofs.Answers.{stop-back}
+use Rattle.layout.proofs.Answers.{stop-back, worth-back}
 use Rattle.rules.specs.Ends.{stopNumber}
 use Rattle.steps.specs.Asks as asks
 use Rattle.steps.proofs.Statements.{stmtFrom, stmt-is, stmt-ok, port-ok}
@@ -171,7 +172,7 @@ pub record Stands (r p t u₀ q₀ u q st : List ℕ) (B left k d kind s tag : �
   pub held : Holds q₀ q records k
   pub few : k + left ≤ B
   pub size : length st ≡ 513
-  pub all-places : length u ≡ 4224
+  pub all-places : length u ≡ 2112
   pub same-room : length q ≡ length q₀
   pub waiting : Waiting
   pub frames : List Frame
@@ -181,7 +182,7 @@ pub record Stands (r p t u₀ q₀ u q st : List ℕ) (B left k d kind s tag : �
   pub rest : whole r p u₀ q₀ B ≡ run (policyOf p) (recipeOf r) (length q₀) left (B - left) (state tag waiting frames (heldIn (recipeOf r) u) records)
 
 -- the loop's state as it is first
-pub starts : {r p t u q st : List ℕ} {B kind s : ℕ} → Ready r p t u → length u ≡ 4224 → length st ≡ 513 → getD st 0 0 ≡ 81920
+pub starts : {r p t u q st : List ℕ} {B kind s : ℕ} → Ready r p t u → length u ≡ 2112 → length st ≡ 513 → getD st 0 0 ≡ 81920
     → s ≡ recipeOf r .stmts - 1 → kind ≡ getD t (4096 + 4 * s) 0 → Stands r p t u q u q st B B 0 0 kind s 0
 starts {r} {p} {t} {u} {q} {st} {B} {kind} {s} a all size low e k =
     let R = recipeOf r in
@@ -271,7 +272,7 @@ module _ {r p t u₀ q₀ u q st : List ℕ} {B left k d kind s tag : ℕ} (g : 
 
     pub moved : {u′ q′ st′ : List ℕ} {k′ d′ kind′ s′ tag′ : ℕ} {w′ : Waiting} {l′ : List Frame} {c : List Record}
         → stepped ≡ Goes (state tag′ w′ l′ (heldIn R u′) c)
-        → Holds q₀ q′ c k′ → k′ ≤ k + 1 → length st′ ≡ 513 → length u′ ≡ 4224 → Ready r p t u′ → Held st′ d′ l′ → Turned t st′ d′ kind′ s′ w′
+        → Holds q₀ q′ c k′ → k′ ≤ k + 1 → length st′ ≡ 513 → length u′ ≡ 2112 → Ready r p t u′ → Held st′ d′ l′ → Turned t st′ d′ kind′ s′ w′
         → Stands r p t u₀ q₀ u′ q′ st′ B (left - 1) k′ d′ kind′ s′ tag′
     moved {w′ = w′} {l′ = l′} {c = c} e h few size all ready stack turned =
         let z : B - left + 1 ≡ B - (left - 1) = omega (arith, g .few) in
@@ -339,10 +340,12 @@ module _ {r p t u₀ q₀ u q st : List ℕ} {B left k d kind s tag : ℕ} (g : 
       wrote-on Passes e ok did z x y = absurd did
       wrote-on (Pushes f n b) e ok did z x y = absurd did
       wrote-on (Writes i v) e (writes l fine) did z x y =
-          let w = held-write R (g .ready .recipe .counts) u (g .all-places) i (v .value) (v .tag) l in
-          moved (e ∙ rw (did .1, w)) (g .held) (omega arith) (g .size)
-          (rw (did .1) (length-set (set u i (v .value)) (2112 + i) (v .tag) ∙ length-set u i (v .value) ∙ g .all-places))
-          (rw (did .1) (ready-write (g .ready) (g .all-places) i (v .value) (v .tag) l (fine .word) (fine .good)))
+          let z = answerOf (Value v) in
+          let w = held-write R (g .ready .recipe .counts) u (g .all-places) i z l in
+          let low : z / 4294967296 < byte p 6 = omega (arith, fine .word, fine .good) in
+          moved (e ∙ rw (did .1, w, worth-back v (fine .word))) (g .held) (omega arith) (g .size)
+          (rw (did .1) (length-set u i z ∙ g .all-places))
+          (rw (did .1) (ready-write (g .ready) (g .all-places) i z l low))
           (g .stack) (at-top x y)
       wrote-on (Records port v) e ok did z x y = absurd did
       wrote-on (Stops n) e ok did z x y = absurd (not-zero n (sym (did .0) ∙ z))

@@ -23,7 +23,7 @@ pub record RunGiven (t u : List ℕ) (limit : ℕ) : Type 0 where
   pub policy : List ℕ
   pub ready : Ready recipe policy t u
   pub limited : limit ≡ recipeOf recipe .stmts
-  pub all-places : length u ≡ 4224
+  pub all-places : length u ≡ 2112
 
 -- the run of r under p from the places in u₀ leaves the places in u
 pub record RunAs (r p t u₀ q₀ : List ℕ) (budget : ℕ) (o : Outcome) (u q : List ℕ) : Type 0 where

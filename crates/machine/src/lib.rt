@@ -81,7 +81,7 @@ fn stopped(h: Stop, s: usize, steps: u32, records: u32) -> Outcome
 
 // One turn of the loop is one step. kind and s say what is done next: statement s of that kind is begun, or the top frame of
 // that kind, which names s, is taken.
-fn run(t: &[u16; 8466], u: &mut [u32; 4224], limit: usize, q: &mut [u8], budget: u32) -> Outcome
+fn run(t: &[u16; 8466], u: &mut [u64; 2112], limit: usize, q: &mut [u8], budget: u32) -> Outcome
     requires { ⌜ RunGiven (now t) (now u) limit ⌝ }
     ensures { λ o. ⌜ ((r p : List ℕ) → Ready r p (now (t .entry)) (now (u .entry)) → limit ≡ recipeOf r .stmts → RunAs r p (now (t .entry)) (now (u .entry)) (now (q .entry)) budget o (now (u .exit)) (now (q .exit))) ⌝ }
 {
@@ -250,7 +250,7 @@ fn run_accepted(r: &[u8], p: &[u8], m: &mut [u8], q: &mut [u8], budget: u32) -> 
     ensures { λ o. ⌜ LeftAs o (now (m .exit)) (now (q .exit)) (writtenBack (now (q .entry)) (ran (now (r .entry)) (now (p .entry)) (now (m .entry)) (length (now (q .entry))) budget)) ⌝ }
 {
     let mut t = [0u16; 8466];
-    let mut u = [0u32; 4224];
+    let mut u = [0u64; 2112];
     decode::decode(r, p, &mut t);
     decode::load(r, m, &mut u);
     let o = run(&t, &mut u, tables::half_at(r, 8), q, budget);

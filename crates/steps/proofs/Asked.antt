@@ -22,10 +22,9 @@ use Rattle.rules.proofs.Tags.{is-under, under-is}
 use Rattle.rules.proofs.Tests.{fails}
 use Rattle.layout.specs.Tables.{joinIn}
 use Rattle.layout.specs.Places.{Ready, heldIn, valueIn}
-use Rattle.layout.specs.Answers.{answerOf, stopFrom}
+use Rattle.layout.specs.Answers.{answerOf, stopFrom, worthOf}
 use Rattle.layout.proofs.Places.{sound-ready, places-ready, place-held}
 use Rattle.layout.proofs.Answers.{Answer, answers, worth, failed, stop-below}
-use Rattle.steps.specs.Asks.{worthOf}
 
 -- ---- answers
 
@@ -121,7 +120,7 @@ module _ {r p t u : List ℕ} (a : Ready r p t u) where
     pub clearance-good : getD t (8448 + port) 0 < byte p 6
     clearance-good = rw clearance-is (sound-ready a .lawful .clearance-below port)
 
-  pub held-good : {i g : ℕ} → i < count (recipeOf r) → g ≡ getD u (2112 + i) 0 → g < byte p 6
+  pub held-good : {i g : ℕ} → i < count (recipeOf r) → g ≡ getD u i 0 / 4294967296 → g < byte p 6
   held-good {i} h q = rw q (a .tags-below i h)
 
   module _ {b g : ℕ} (hb : b < byte p 6) (hg : g < byte p 6) where
@@ -148,7 +147,7 @@ module _ {r p t u : List ℕ} (a : Ready r p t u) where
       lies-off n = fails (under (policyOf p) b g) (λ e. absurd (n (join-is ∙ under-is (policyOf p) b g e)))
 
   -- g is the tag of place i, and j its join with b
-  module _ {b i g j : ℕ} (hb : b < byte p 6) (h : i < count (recipeOf r)) (q : g ≡ getD u (2112 + i) 0) (k : j ≡ joinIn t b g) where
+  module _ {b i g j : ℕ} (hb : b < byte p 6) (h : i < count (recipeOf r)) (q : g ≡ getD u i 0 / 4294967296) (k : j ≡ joinIn t b g) where
     tag-held : g ≡ tagOf (placeAt (heldIn (recipeOf r) u) i)
     unfolding tagOf
     tag-held = rw (q, place-held (recipeOf r) u i h)

@@ -14,8 +14,8 @@ use Rattle.rules.specs.Recipe.{recipeOf}
 use Rattle.rules.specs.Memory.{valueOf, tagOf}
 use Rattle.rules.specs.Steps.{assigns, stores}
 use Rattle.layout.specs.Places.{heldIn, valueIn}
-use Rattle.layout.specs.Answers.{answerOf}
-use Rattle.steps.specs.Asks.{Done, worthOf}
+use Rattle.layout.specs.Answers.{answerOf, worthOf}
+use Rattle.steps.specs.Asks.{Done}
 use Rattle.steps.proofs.assign.Reads as assign
 use Rattle.steps.proofs.store.Reads as store
 use Rattle.steps.proofs.may_emit.Reads as may-emit

@@ -1,29 +1,25 @@
 -- What a statement asks of the places, done: of a recipe r under a policy p, over the places in u and under branch tag b.
 -- Assumes nothing.
-use Prim.Native.Nat.{ℕ, _+_, _/_, _%_, _<_}
+use Prim.Native.Nat.{ℕ, _/_, _<_}
 use mathlib.Core.Path.{_≡_}
 use mathlib.Core.List.{List}
 use lib.ListN.{set}
 use Rattle.rules.specs.declared.Act.{Act}
 use Rattle.rules.specs.declared.Act.the-variants.{Passes, Pushes, Writes, Records, Stops}
-use Rattle.rules.specs.declared.Place.{Place}
+use Rattle.rules.specs.declared.Valued.the-variants.{Value}
 use Rattle.rules.specs.Bytes.{byte}
 use Rattle.rules.specs.Recipe.{recipeOf}
-use Rattle.rules.specs.Memory.{_#_}
 use Rattle.rules.specs.Ends.{stopNumber}
 use Rattle.layout.specs.Places.{Ready}
+use Rattle.layout.specs.Answers.{answerOf}
 
 -- what the act asked of the places was done: written, with 0; or nothing, with the number of the end
 abbrev pub Done : Act → (h : ℕ) → (u v : List ℕ) → Type 0
 Done Passes h u v = ⊥
 Done (Pushes f a t) h u v = ⊥
-Done (Writes i q) h u v = (h ≡ 0) × (v ≡ set (set u i (q .value)) (2112 + i) (q .tag))
+Done (Writes i q) h u v = (h ≡ 0) × (v ≡ set u i (answerOf (Value q)))
 Done (Records port w) h u v = ⊥
 Done (Stops x) h u v = (h ≡ stopNumber x) × (v ≡ u)
-
--- an answer that is no fault, as a place
-abbrev pub worthOf : ℕ → Place
-worthOf x = (x % 4294967296) # (x / 4294967296)
 
 -- ---- there are accepted tables that t and u hold, with branch tag b and what a statement names in them
 

@@ -2,7 +2,7 @@
 
 ghost use mathlib.Core.Path.{_≡_};
 ghost use mathlib.Core.List.{List};
-ghost use Prim.Native.Nat.{ℕ, _+_, _/_, _^_, _<_};
+ghost use Prim.Native.Nat.{ℕ, _+_, _*_, _/_, _^_, _<_};
 ghost use lib.Dec.{eqb};
 ghost use lib.ListN.{getD, set};
 ghost use Rattle.rules.specs.Bytes.{byte};
@@ -12,23 +12,22 @@ ghost use Rattle.rules.specs.Memory.{valueOf, tagOf};
 ghost use Rattle.rules.specs.Steps.{assigns, stores};
 ghost use Rattle.layout.specs.Tables.{joinIn};
 ghost use Rattle.layout.specs.Places.{Ready, heldIn, valueIn};
-ghost use Rattle.layout.specs.Answers.{answerOf};
-ghost use Rattle.steps.specs.Asks.{Done, worthOf, AssignGiven, StoreGiven, CellGiven};
+ghost use Rattle.layout.specs.Answers.{answerOf, worthOf};
+ghost use Rattle.steps.specs.Asks.{Done, AssignGiven, StoreGiven, CellGiven};
 use rules::Place;
 use rules::Valued;
 
 const FAULT: u64 = 9223372036854775808;
 
-fn put_place(u: &mut [u32; 4224], i: usize, w: u32, g: u32)
+fn put_place(u: &mut [u64; 2112], i: usize, w: u32, g: u32)
     requires { ⌜ i < 2112 ⌝ }
-    ensures { λ _. ⌜ now (u .exit) ≡ set (set (now (u .entry)) i w) (2112 + i) g ⌝ }
+    ensures { λ _. ⌜ now (u .exit) ≡ set (now (u .entry)) i (w + 4294967296 * g) ⌝ }
 {
-    u[i] = w;
-    u[2112 + i] = g;
+    u[i] = eval::answer(w, g);
 }
 
 // v is a value. Gives 0, or the number of the end that forbids the assignment.
-pub fn assign(t: &[u16; 8466], u: &mut [u32; 4224], tag: u32, i: usize, v: u64) -> u32
+pub fn assign(t: &[u16; 8466], u: &mut [u64; 2112], tag: u32, i: usize, v: u64) -> u32
     requires { ⌜ AssignGiven (now t) (now u) tag i v ⌝ }
     ensures { λ h. ⌜ ((r p : List ℕ) (q : Place) → Ready r p (now (t .entry)) (now (u .entry)) → tag < byte p 6 → i < recipeOf r .vars → tagOf q < byte p 6 → valueOf q < 2 ^ 32 → v ≡ answerOf (Valued.Value q) → Done (assigns (policyOf p) (recipeOf r) (heldIn (recipeOf r) (now (u .entry))) tag i (Valued.Value q)) h (now (u .entry)) (now (u .exit))) ⌝ }
 {
@@ -42,7 +41,7 @@ pub fn assign(t: &[u16; 8466], u: &mut [u32; 4224], tag: u32, i: usize, v: u64) 
 }
 
 // x, the index, and v are values.
-fn store_at(t: &[u16; 8466], u: &mut [u32; 4224], tag: u32, x: u64, v: u64) -> u32
+fn store_at(t: &[u16; 8466], u: &mut [u64; 2112], tag: u32, x: u64, v: u64) -> u32
     requires { ⌜ CellGiven (now t) (now u) tag x v ⌝ }
     ensures { λ h. ⌜ ((r p : List ℕ) → Ready r p (now (t .entry)) (now (u .entry)) → tag < byte p 6 → x / 4294967296 < byte p 6 → v / 4294967296 < byte p 6 → Done (stores (policyOf p) (recipeOf r) (heldIn (recipeOf r) (now (u .entry))) tag (Valued.Value (worthOf x)) (Valued.Value (worthOf v))) h (now (u .entry)) (now (u .exit))) ⌝ }
 {
@@ -61,7 +60,7 @@ fn store_at(t: &[u16; 8466], u: &mut [u32; 4224], tag: u32, x: u64, v: u64) -> u
 }
 
 // Expression i is the index and e the value. Gives 0, or the number of the end that forbids the store.
-pub fn store(t: &[u16; 8466], u: &mut [u32; 4224], tag: u32, i: usize, e: usize) -> u32
+pub fn store(t: &[u16; 8466], u: &mut [u64; 2112], tag: u32, i: usize, e: usize) -> u32
     requires { ⌜ StoreGiven (now t) (now u) tag i e ⌝ }
     ensures { λ h. ⌜ ((r p : List ℕ) → Ready r p (now (t .entry)) (now (u .entry)) → tag < byte p 6 → i < recipeOf r .exprs → e < recipeOf r .exprs → Done (stores (policyOf p) (recipeOf r) (heldIn (recipeOf r) (now (u .entry))) tag (valueIn r p (now (u .entry)) i) (valueIn r p (now (u .entry)) e)) h (now (u .entry)) (now (u .exit))) ⌝ }
 {

@@ -1,7 +1,7 @@
 -- The loop's invariant: the expressions below `e` are there. Assumes nothing.
 use lib.ListN.{length}
 use Rattle.decode.specs.Filled.{ExprsAs}
-use Rattle.decode.proofs.Tables.{expr-fits, exprs-more}
+use Rattle.decode.proofs.Tables.{exprs-more}
 use Prim.Native.Nat.{_-_, _≤_}
 use native.Mathlib.Omega.{arith}
 use mathlib.Core.Path.{_≡_, refl, _∙_}
@@ -22,11 +22,8 @@ half-at-requires c κs = search needs
 loop-holds : tie.Need-loop-holds Inv-loop μ-loop
 loop-holds c = (search needs, refl, below-none _)
 
-expr-at-requires : tie.Need-expr-at-requires Inv-loop μ-loop
-expr-at-requires c κs = omega (arith, c .before .before .before .before .before .pre .0 .long)
-
 expr-fields-requires : tie.Need-expr-fields-requires Inv-loop μ-loop
-expr-fields-requires c κs = (omega (arith, c .before .before .before .before .before .before .pre .0 .counts .few-exprs), expr-fits _ _ _ (c .before .before .before .before .before .before .pre .0) (omega arith) (c .expr-at .ensures))
+expr-fields-requires c κs = (c .before .before .before .before .before .before .pre .0, omega (arith), omega (arith, c .before .before .before .before .before .before .pre .1, c .before .before .loop .inv .1), c .before .before .loop .inv .2)
 
 mul-put-fields : tie.Need-mul-put-fields Inv-loop μ-loop
 mul-put-fields c = omega (arith, c .before .before .before .before .before .before .before .before .pre .0 .counts .few-exprs)
@@ -44,7 +41,7 @@ loop-again : tie.Need-loop-again Inv-loop μ-loop
 loop-again c =
     let inv = c .before .before .before .before .before .before .before .loop .inv in
     let put = c .before .before .put-fields .ensures in
-    (omega arith, put .1 .long ∙ inv .1, exprs-more _ _ (c .before .before .before .before .expr-fields .ensures) (c .before .before .before .before .before .expr-at .ensures) (put .0) (put .1) (inv .2))
+    (omega arith, put .1 .long ∙ inv .1, exprs-more _ _ (c .before .before .before .before .expr-fields .ensures) (put .0) (put .1) (inv .2))
 
 same-length : tie.Need-same-length Inv-loop μ-loop
 same-length c = c .before .loop .inv .1
@@ -60,7 +57,6 @@ decode-exprs-spec =
     μ-loop
     half-at-requires
     loop-holds
-    expr-at-requires
     expr-fields-requires
     mul-put-fields
     put-fields-requires

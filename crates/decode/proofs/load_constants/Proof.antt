@@ -2,14 +2,15 @@
 use Prim.Native.Nat.{_-_, _≤_}
 use native.Mathlib.Omega.{arith}
 use borrow.Author.Count.{below-none}
-use Rattle.decode.specs.Filled.{ConstantsAs, PlacesKept}
-use Rattle.decode.proofs.Places.{places-kept-none, places-kept-then, constants-more}
+use Rattle.decode.specs.Filled.{ConstantsAs, Kept}
+use Rattle.decode.proofs.Tables.{kept-none, kept-then}
+use Rattle.decode.proofs.Places.{constants-more}
 use borrow.Author.Needs.{needs}
 use Rattle.decode.proofs.load_constants.Statement.{statement}
 use Rattle.decode.proofs.load_constants.Tie as tie
 
 abbrev Inv-loop : tie.InvT-loop
-Inv-loop r u₀ exprs e₀ u e = (e ≤ exprs) × ConstantsAs r e u × PlacesKept 1088 u₀ u
+Inv-loop r u₀ exprs e₀ u e = (e ≤ exprs) × ConstantsAs r e u × Kept 1088 u₀ u
 
 abbrev μ-loop : tie.MeasureT-loop
 μ-loop r u₀ exprs e₀ u e = exprs - e
@@ -18,7 +19,7 @@ half-at-requires : tie.Need-half-at-requires Inv-loop μ-loop
 half-at-requires c κs = search needs
 
 loop-holds : tie.Need-loop-holds Inv-loop μ-loop
-loop-holds c = (search needs, below-none _, places-kept-none _ _)
+loop-holds c = (search needs, below-none _, kept-none _ _)
 
 expr-at-requires : tie.Need-expr-at-requires Inv-loop μ-loop
 expr-at-requires c κs = omega (arith, c .before .before .before .before .before .pre .0 .long)
@@ -36,7 +37,7 @@ loop-again : tie.Need-loop-again Inv-loop μ-loop
 loop-again c =
     let inv = c .before .before .before .before .before .before .loop .inv in
     let put = c .before .before .load-constant .ensures in
-    (omega arith, constants-more _ _ (c .before .before .before .before .expr-at .ensures) (put .0) (put .1) (inv .1), places-kept-then (omega arith) (inv .2) (put .1))
+    (omega arith, constants-more _ _ (c .before .before .before .before .expr-at .ensures) (put .0) (put .1) (inv .1), kept-then (omega arith) (inv .2) (put .1))
 
 same-length : tie.Need-same-length Inv-loop μ-loop
 same-length c = c .before .loop .inv .2 .long

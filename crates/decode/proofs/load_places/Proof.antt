@@ -11,7 +11,7 @@ use Rattle.decode.proofs.load_places.Statement.{statement}
 use Rattle.decode.proofs.load_places.Tie as tie
 
 abbrev Inv-loop : tie.InvT-loop
-Inv-loop m count u₀ i₀ u i = (i ≤ count) × (length u ≡ 4224) × PlacesAs m i u
+Inv-loop m count u₀ i₀ u i = (i ≤ count) × (length u ≡ 2112) × PlacesAs m i u
 
 abbrev μ-loop : tie.MeasureT-loop
 μ-loop m count u₀ i₀ u i = count - i
@@ -22,14 +22,14 @@ loop-holds c = (search needs, c .before .before .pre .2, below-none _)
 place-at-requires : tie.Need-place-at-requires Inv-loop μ-loop
 place-at-requires c κs = search needs
 
-mul-u : tie.Need-mul-u Inv-loop μ-loop
-mul-u c = search needs
-
-slice-write-u : tie.Need-slice-write-u Inv-loop μ-loop
-slice-write-u c = omega (arith, c .before .before .before .before .before .pre .0, c .before .before .loop .inv .1)
-
 cast-u : tie.Need-cast-u Inv-loop μ-loop
 cast-u c = search needs
+
+cast-u-2 : tie.Need-cast-u-2 Inv-loop μ-loop
+cast-u-2 c = search needs
+
+mul-u : tie.Need-mul-u Inv-loop μ-loop
+mul-u c = search needs
 
 add-u : tie.Need-add-u Inv-loop μ-loop
 add-u c = search needs
@@ -37,8 +37,8 @@ add-u c = search needs
 mul-u-2 : tie.Need-mul-u-2 Inv-loop μ-loop
 mul-u-2 c = search needs
 
-slice-write-u-2 : tie.Need-slice-write-u-2 Inv-loop μ-loop
-slice-write-u-2 c = simp length-set (omega (arith, c .before .before .before .before .before .before .pre .0, c .before .before .before .loop .inv .1))
+slice-write-u : tie.Need-slice-write-u Inv-loop μ-loop
+slice-write-u c = omega (arith, c .before .before .before .before .before .before .before .pre .0, c .before .before .before .before .loop .inv .1)
 
 add-i : tie.Need-add-i Inv-loop μ-loop
 add-i c = search needs
@@ -48,10 +48,11 @@ loop-less c = search needs
 
 loop-again : tie.Need-loop-again Inv-loop μ-loop
 loop-again c =
-    let inv = c .before .before .before .loop .inv in (
+    let inv = c .before .before .before .before .loop .inv in
+    let few = c .before .before .before .before .before .before .before .pre .0 in (
       omega arith,
       simp length-set (inv .1),
-      places-more (c .before .before .before .before .before .before .args .m .now) (c .before .before .before .loop .u) (c .before .before .before .loop .i) (c .before .place-at .result) (inv .1) (omega (arith, c .before .before .before .before .before .before .pre .0)) (c .before .place-at .ensures) (inv .2),
+      places-more (c .before .before .before .before .before .before .before .args .m .now) (c .before .before .before .before .loop .u) (c .before .before .before .before .loop .i) (c .before .before .place-at .result) (omega arith) (omega arith) (c .before .before .place-at .ensures) (inv .2),
     )
 
 same-length : tie.Need-same-length Inv-loop μ-loop
@@ -68,12 +69,12 @@ load-places-spec =
     μ-loop
     loop-holds
     place-at-requires
-    mul-u
-    slice-write-u
     cast-u
+    cast-u-2
+    mul-u
     add-u
     mul-u-2
-    slice-write-u-2
+    slice-write-u
     add-i
     loop-less
     loop-again

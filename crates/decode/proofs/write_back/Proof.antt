@@ -22,23 +22,17 @@ abbrev μ-loop : tie.MeasureT-loop
 loop-holds : tie.Need-loop-holds Inv-loop μ-loop
 loop-holds c = (search needs, refl, (λ i. c .slice-known .given i .fits), below-none _)
 
-mul-w : tie.Need-mul-w Inv-loop μ-loop
-mul-w c = search needs
+mul-x : tie.Need-mul-x Inv-loop μ-loop
+mul-x c = search needs
 
-element-copy-out-w : tie.Need-element-copy-out-w Inv-loop μ-loop
-element-copy-out-w c = search needs
+element-copy-out-x : tie.Need-element-copy-out-x Inv-loop μ-loop
+element-copy-out-x c = search needs
 
-add-g : tie.Need-add-g Inv-loop μ-loop
-add-g c = search needs
+cast-t14 : tie.Need-cast-t14 Inv-loop μ-loop
+cast-t14 c = omega arith
 
-mul-g : tie.Need-mul-g Inv-loop μ-loop
-mul-g c = search needs
-
-element-copy-out-g : tie.Need-element-copy-out-g Inv-loop μ-loop
-element-copy-out-g c = search needs
-
-cast-t18 : tie.Need-cast-t18 Inv-loop μ-loop
-cast-t18 c = omega (arith, c .before .before .before .before .before .before .pre .2 (c .before .before .before .before .loop .i) (omega arith))
+cast-t16 : tie.Need-cast-t16 Inv-loop μ-loop
+cast-t16 c = omega (arith, c .before .before .before .before .before .pre .2 (c .before .before .before .loop .i) (omega arith))
 
 put-place-requires : tie.Need-put-place-requires Inv-loop μ-loop
 put-place-requires c κs = search needs
@@ -51,11 +45,11 @@ loop-less c = search needs
 
 loop-again : tie.Need-loop-again Inv-loop μ-loop
 loop-again c =
-    let u = c .before .before .before .before .before .before .before .before .before .args .u .now in
-    let i = c .before .before .before .before .before .before .before .loop .i in
-    let inv = c .before .before .before .before .before .before .before .loop .inv in
+    let u = c .before .before .before .before .before .before .before .before .args .u .now in
+    let i = c .before .before .before .before .before .before .loop .i in
+    let inv = c .before .before .before .before .before .before .loop .inv in
     let put = c .before .before .put-place .ensures in
-    let long : 5 * c .before .before .before .before .before .before .before .before .before .args .count ≤ length (c .before .before .before .before .before .before .before .loop .m) = omega (arith, inv .1, c .before .before .before .before .before .before .before .before .before .pre .1) in (
+    let long : 5 * c .before .before .before .before .before .before .before .before .args .count ≤ length (c .before .before .before .before .before .before .loop .m) = omega (arith, inv .1, c .before .before .before .before .before .before .before .before .pre .1) in (
       omega arith,
       rw (put .0) (length-placed _ _ _ ∙ inv .1),
       (λ j. c .slice-known2 .given j .fits),
@@ -75,12 +69,10 @@ write-back-spec =
     Inv-loop
     μ-loop
     loop-holds
-    mul-w
-    element-copy-out-w
-    add-g
-    mul-g
-    element-copy-out-g
-    cast-t18
+    mul-x
+    element-copy-out-x
+    cast-t14
+    cast-t16
     put-place-requires
     add-i
     loop-less

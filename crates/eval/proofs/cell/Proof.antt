@@ -1,15 +1,18 @@
--- A cell stands after the variables. Assumes nothing.
 use Prim.Native.Nat.{_<_}
 use native.Mathlib.Omega.{arith}
 use lib.ListN.{getD}
 use borrow.Author.Tests.{le-ltb, lt-ltb}
-use borrow.Author.Needs.{needs}
 use Rattle.rules.specs.Memory.{valueOf, tagOf}
 use Rattle.rules.specs.Steps.{given}
 use Rattle.rules.specs.Ends.{stopNumber}
 use Rattle.eval.specs.Packed.{wordIn}
+use borrow.Author.Needs.{needs}
 use Rattle.eval.proofs.cell.Statement.{statement}
 use Rattle.eval.proofs.cell.Tie as tie
+use Rattle.eval.proofs.cell.Reads as reads
+use Rattle.eval.proofs.cell.Lts as lts
+use Rattle.eval.proofs.both.Reads as both-reads
+use Rattle.eval.proofs.word_of.Reads as word-of-reads
 
 element-copy-out-if1 : tie.Need-element-copy-out-if1
 element-copy-out-if1 c = search needs
@@ -42,27 +45,27 @@ cast-i-2 c = search needs
 add-i : tie.Need-add-i
 add-i c = let l : wordIn (c .before .before .before .before .before .args .x) < getD (c .before .before .before .before .before .args .t .now) 8465 0 = omega (arith, c .before .before .before .word-of .ensures, c .before .before .if1 .left) in omega (arith, c .before .before .before .before .before .pre .inside l, c .word-of2 .ensures)
 
-mul-answer : tie.Need-mul-answer
-mul-answer c = let l : wordIn (c .before .before .before .before .before .args .x) < getD (c .before .before .before .before .before .args .t .now) 8465 0 = omega (arith, c .before .before .before .word-of .ensures, c .before .before .if1 .left) in omega (arith, c .before .before .before .before .before .pre .inside l, c .word-of2 .ensures)
+mul-word-of : tie.Need-mul-word-of
+mul-word-of c = let l : wordIn (c .before .before .before .before .before .args .x) < getD (c .before .before .before .before .before .args .t .now) 8465 0 = omega (arith, c .before .before .before .word-of .ensures, c .before .before .if1 .left) in omega (arith, c .before .before .before .before .before .pre .inside l, c .word-of2 .ensures)
 
-element-copy-out-answer : tie.Need-element-copy-out-answer
-element-copy-out-answer c = let l : wordIn (c .before .before .before .before .before .args .x) < getD (c .before .before .before .before .before .args .t .now) 8465 0 = omega (arith, c .before .before .before .word-of .ensures, c .before .before .if1 .left) in omega (arith, c .before .before .before .before .before .pre .inside l, c .word-of2 .ensures)
+element-copy-out-word-of : tie.Need-element-copy-out-word-of
+element-copy-out-word-of c = let l : wordIn (c .before .before .before .before .before .args .x) < getD (c .before .before .before .before .before .args .t .now) 8465 0 = omega (arith, c .before .before .before .word-of .ensures, c .before .before .if1 .left) in omega (arith, c .before .before .before .before .before .pre .inside l, c .word-of2 .ensures)
 
-tag-at-requires : tie.Need-tag-at-requires
-tag-at-requires c κs = let l : wordIn (c .before .before .before .before .before .before .args .x) < getD (c .before .before .before .before .before .before .args .t .now) 8465 0 = omega (arith, c .before .before .before .before .word-of .ensures, c .before .before .before .if1 .left) in rw (c .before .word-of2 .ensures) (c .before .before .before .before .before .before .pre .inside l)
+word-of-requires-3 : tie.Need-word-of-requires-3
+word-of-requires-3 c κs = search needs
 
-tag-of-requires : tie.Need-tag-of-requires
-tag-of-requires c κs = search needs
+mul-both : tie.Need-mul-both
+mul-both c = let l : wordIn (c .before .before .before .before .before .before .before .args .x) < getD (c .before .before .before .before .before .before .before .args .t .now) 8465 0 = omega (arith, c .before .before .before .before .before .word-of .ensures, c .before .before .before .before .if1 .left) in omega (arith, c .before .before .before .before .before .before .before .pre .inside l, c .before .before .word-of2 .ensures)
 
-join-requires : tie.Need-join-requires
-join-requires c κs = let l : wordIn (c .before .before .before .before .before .before .before .before .args .x) < getD (c .before .before .before .before .before .before .before .before .args .t .now) 8465 0 = omega (arith, c .before .before .before .before .before .before .word-of .ensures, c .before .before .before .before .before .if1 .left) in rw (c .before .tag-at .ensures, c .tag-of .ensures, c .before .before .before .word-of2 .ensures) (c .before .before .before .before .before .before .before .before .pre .tags l .0, c .before .before .before .before .before .before .before .before .pre .tags l .1)
+element-copy-out-both : tie.Need-element-copy-out-both
+element-copy-out-both c = let l : wordIn (c .before .before .before .before .before .before .before .args .x) < getD (c .before .before .before .before .before .before .before .args .t .now) 8465 0 = omega (arith, c .before .before .before .before .before .word-of .ensures, c .before .before .before .before .if1 .left) in omega (arith, c .before .before .before .before .before .before .before .pre .inside l, c .before .before .word-of2 .ensures)
 
-answer-requires : tie.Need-answer-requires
-answer-requires c κs = search needs
+both-requires : tie.Need-both-requires
+both-requires c κs = let l : wordIn (c .before .before .before .before .before .before .before .before .args .x) < getD (c .before .before .before .before .before .before .before .before .args .t .now) 8465 0 = omega (arith, c .before .before .before .before .before .before .word-of .ensures, c .before .before .before .before .before .if1 .left) in rw (c .before .before .before .word-of2 .ensures) (c .before .before .before .before .before .before .before .before .pre .tags l)
 
 returns-2 : tie.Need-returns-2
 unfolding given valueOf tagOf
-returns-2 c = let l : wordIn (c .before .before .before .before .before .before .before .before .before .before .args .x) < getD (c .before .before .before .before .before .before .before .before .before .before .args .t .now) 8465 0 = omega (arith, c .before .before .before .before .before .before .before .before .word-of .ensures, c .before .before .before .before .before .before .before .if1 .left) in rw (lt-ltb (wordIn (c .before .before .before .before .before .before .before .before .before .before .args .x)) (getD (c .before .before .before .before .before .before .before .before .before .before .args .t .now) 8465 0) l, c .answer .ensures, c .before .join .ensures, c .before .before .before .tag-at .ensures, c .before .before .tag-of .ensures, c .before .before .before .before .before .word-of2 .ensures)
+returns-2 c = let l : wordIn (c .before .before .before .before .before .before .before .before .before .args .x) < getD (c .before .before .before .before .before .before .before .before .before .args .t .now) 8465 0 = omega (arith, c .before .before .before .before .before .before .before .word-of .ensures, c .before .before .before .before .before .before .if1 .left) in rw (lt-ltb (wordIn (c .before .before .before .before .before .before .before .before .before .args .x)) (getD (c .before .before .before .before .before .before .before .before .before .args .t .now) 8465 0) l, c .both .ensures, c .before .before .word-of3 .ensures, c .before .before .before .before .word-of2 .ensures)
 
 pub cell-spec : {M : Type 1} → statement M
 cell-spec =
@@ -78,10 +81,10 @@ cell-spec =
     word-of-requires-2
     cast-i-2
     add-i
-    mul-answer
-    element-copy-out-answer
-    tag-at-requires
-    tag-of-requires
-    join-requires
-    answer-requires
+    mul-word-of
+    element-copy-out-word-of
+    word-of-requires-3
+    mul-both
+    element-copy-out-both
+    both-requires
     returns-2)

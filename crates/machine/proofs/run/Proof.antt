@@ -9,7 +9,7 @@ use Prim.Native.Nat.{ℕ, _+_, _-_}
 use Rattle.rules.specs.Policy.{policyOf}
 use Rattle.rules.specs.Recipe.{recipeOf}
 use Rattle.layout.specs.Places.{heldIn, Ready}
-use Rattle.steps.specs.Asks.{worthOf}
+use Rattle.layout.specs.Answers.{worthOf}
 use Rattle.steps.proofs.Asked.{value-found, value-fault, tag-found, join-is, join-good, clearance-is, clearance-good, lies-under, lies-off}
 use Rattle.steps.proofs.Statements.{first-fits, second-fits, third-fits}
 use Rattle.machine.proofs.Frames.{kind-low}

@@ -16,7 +16,7 @@ half-at-requires : tie.Need-half-at-requires
 half-at-requires c κs = omega (arith, c .before .before .before .before .before .before .before .before .before .before .before .pre .recipe .long)
 
 run-requires : tie.Need-run-requires
-run-requires c κs = record { recipe = _; policy = _; ready = (loaded _ (c .before .before .before .before .before .before .before .before .before .before .before .before .before .pre) (c .before .before .before .before .load .ensures .0) (λ i. c .before .before .before .before .before .before .before .before .before .before .before .before .shared-slice-known .given i .fits) (λ i. c .before .before .before .before .before .before .before .before .before .before .slice-known .given i .fits) (c .before .before .before .before .before .before .before .decode .ensures) (c .before .before .before .before .load .ensures .1)); limited = c .before .half-at .ensures .0; all-places = c .before .before .before .before .load .ensures .2 }
+run-requires c κs = record { recipe = _; policy = _; ready = (loaded _ (c .before .before .before .before .before .before .before .before .before .before .before .before .before .pre) (c .before .before .before .before .load .ensures .0) (λ i. c .before .before .before .before .before .before .before .before .before .before .before .before .shared-slice-known .given i .fits) (c .before .before .before .before .before .before .before .decode .ensures) (c .before .before .before .before .load .ensures .1)); limited = c .before .half-at .ensures .0; all-places = c .before .before .before .before .load .ensures .2 }
 
 half-at-requires-2 : tie.Need-half-at-requires-2
 half-at-requires-2 c κs = omega (arith, c .before .before .before .before .before .before .before .before .before .before .before .before .before .before .before .before .before .pre .recipe .long)
@@ -28,7 +28,7 @@ add-write-back : tie.Need-add-write-back
 add-write-back c = search needs
 
 write-back-requires : tie.Need-write-back-requires
-write-back-requires c κs = (omega (arith, c .before .before .half-at2 .ensures .0, c .before .half-at3 .ensures .0, c .before .before .before .before .before .before .before .before .before .before .before .before .before .before .before .before .before .before .before .before .pre .recipe .counts .few-vars, c .before .before .before .before .before .before .before .before .before .before .before .before .before .before .before .before .before .before .before .before .pre .recipe .counts .few-cells), omega (arith, c .before .before .half-at2 .ensures .0, c .before .half-at3 .ensures .0, c .before .before .before .before .before .before .before .before .before .before .before .before .before .before .before .before .before .before .before .before .pre .memory .long), λ i h. omega (arith, (c .before .before .before .before .before .before .run .ensures _ _ (loaded _ (c .before .before .before .before .before .before .before .before .before .before .before .before .before .before .before .before .before .before .before .before .pre) (c .before .before .before .before .before .before .before .before .before .before .before .load .ensures .0) (λ i. c .before .before .before .before .before .before .before .before .before .before .before .before .before .before .before .before .before .before .before .shared-slice-known .given i .fits) (λ i. c .before .before .before .before .before .before .before .before .before .before .before .before .before .before .before .before .before .slice-known .given i .fits) (c .before .before .before .before .before .before .before .before .before .before .before .before .before .before .decode .ensures) (c .before .before .before .before .before .before .before .before .before .before .before .load .ensures .1)) (c .before .before .before .before .before .before .before .before .half-at .ensures .0)) .ready .tags-below i (omega (arith, h, c .before .before .half-at2 .ensures .0, c .before .half-at3 .ensures .0)), c .before .before .before .before .before .before .before .before .before .before .before .before .before .before .before .before .before .before .before .before .pre .policy .few-tags))
+write-back-requires c κs = (omega (arith, c .before .before .half-at2 .ensures .0, c .before .half-at3 .ensures .0, c .before .before .before .before .before .before .before .before .before .before .before .before .before .before .before .before .before .before .before .before .pre .recipe .counts .few-vars, c .before .before .before .before .before .before .before .before .before .before .before .before .before .before .before .before .before .before .before .before .pre .recipe .counts .few-cells), omega (arith, c .before .before .half-at2 .ensures .0, c .before .half-at3 .ensures .0, c .before .before .before .before .before .before .before .before .before .before .before .before .before .before .before .before .before .before .before .before .pre .memory .long), λ i h. omega (arith, (c .before .before .before .before .before .before .run .ensures _ _ (loaded _ (c .before .before .before .before .before .before .before .before .before .before .before .before .before .before .before .before .before .before .before .before .pre) (c .before .before .before .before .before .before .before .before .before .before .before .load .ensures .0) (λ i. c .before .before .before .before .before .before .before .before .before .before .before .before .before .before .before .before .before .before .before .shared-slice-known .given i .fits) (c .before .before .before .before .before .before .before .before .before .before .before .before .before .before .decode .ensures) (c .before .before .before .before .before .before .before .before .before .before .before .load .ensures .1)) (c .before .before .before .before .before .before .before .before .half-at .ensures .0)) .ready .tags-below i (omega (arith, h, c .before .before .half-at2 .ensures .0, c .before .half-at3 .ensures .0)), c .before .before .before .before .before .before .before .before .before .before .before .before .before .before .before .before .before .before .before .before .pre .policy .few-tags))
 
 same-length : tie.Need-same-length
 same-length c = search needs
@@ -37,7 +37,7 @@ same-length-2 : tie.Need-same-length-2
 same-length-2 c = search needs
 
 returns : tie.Need-returns
-returns c = left-back _ (c .before .before .before .before .before .before .before .before .before .before .before .before .before .before .before .before .before .before .before .before .before .before .before .pre) (c .before .before .before .before .before .before .before .before .before .before .before .before .before .before .load .ensures .0) (c .before .before .before .before .before .before .before .before .before .run .ensures _ _ (loaded _ (c .before .before .before .before .before .before .before .before .before .before .before .before .before .before .before .before .before .before .before .before .before .before .before .pre) (c .before .before .before .before .before .before .before .before .before .before .before .before .before .before .load .ensures .0) (λ i. c .before .before .before .before .before .before .before .before .before .before .before .before .before .before .before .before .before .before .before .before .before .before .shared-slice-known .given i .fits) (λ i. c .before .before .before .before .before .before .before .before .before .before .before .before .before .before .before .before .before .before .before .before .slice-known .given i .fits) (c .before .before .before .before .before .before .before .before .before .before .before .before .before .before .before .before .before .decode .ensures) (c .before .before .before .before .before .before .before .before .before .before .before .before .before .before .load .ensures .1)) (c .before .before .before .before .before .before .before .before .before .before .before .half-at .ensures .0)) (omega (arith, c .before .before .before .before .before .half-at2 .ensures .0, c .before .before .before .before .half-at3 .ensures .0)) (c .before .before .write-back .ensures)
+returns c = left-back _ (c .before .before .before .before .before .before .before .before .before .before .before .before .before .before .before .before .before .before .before .before .before .before .before .pre) (c .before .before .before .before .before .before .before .before .before .before .before .before .before .before .load .ensures .0) (c .before .before .before .before .before .before .before .before .before .run .ensures _ _ (loaded _ (c .before .before .before .before .before .before .before .before .before .before .before .before .before .before .before .before .before .before .before .before .before .before .before .pre) (c .before .before .before .before .before .before .before .before .before .before .before .before .before .before .load .ensures .0) (λ i. c .before .before .before .before .before .before .before .before .before .before .before .before .before .before .before .before .before .before .before .before .before .before .shared-slice-known .given i .fits) (c .before .before .before .before .before .before .before .before .before .before .before .before .before .before .before .before .before .decode .ensures) (c .before .before .before .before .before .before .before .before .before .before .before .before .before .before .load .ensures .1)) (c .before .before .before .before .before .before .before .before .before .before .before .half-at .ensures .0)) (omega (arith, c .before .before .before .before .before .half-at2 .ensures .0, c .before .before .before .before .half-at3 .ensures .0)) (c .before .before .write-back .ensures)
 
 pub run-accepted-spec : {M : Type 1} → statement M
 run-accepted-spec =

@@ -1,5 +1,6 @@
 -- The branch tag is held against the old tag, and joined with the value's. Assumes nothing.
 use mathlib.Core.Path.{refl, _∙_}
+use Rattle.rules.specs.Memory.{valueOf, tagOf}
 use Rattle.rules.specs.Ends.{stopNumber}
 use Rattle.rules.specs.Steps.{allow}
 use Rattle.steps.proofs.Asked.{word-is, tag-is, var-in, held-good, join-given, join-is, held-under, held-off, same-below}
@@ -37,7 +38,7 @@ put-place-requires : tie.Need-put-place-requires
 put-place-requires c κs = search needs
 
 returns-2 : tie.Need-returns-2
-unfolding allow
+unfolding allow valueOf tagOf
 returns-2 c r p q a b h k w e =
     let tag-of = c .before .before .before .before .tag-of in
     let join2 = c .before .before .before .join2 in
