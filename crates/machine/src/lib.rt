@@ -161,10 +161,10 @@ fn run(t: &[u16; 8466], u: &mut [u64; 2112], limit: usize, q: &mut [u8], budget:
                 if eval::word_of(v) == 0 {
                     s = named(t, s, 3);
                     kind = kind_at(t, s);
-                    continue;
+                } else {
+                    s = named(t, s, 2);
+                    kind = kind_at(t, s);
                 }
-                s = named(t, s, 2);
-                kind = kind_at(t, s);
             }
             5 => {
                 let v = eval::value(t, u, named(t, s, 1));
@@ -175,16 +175,16 @@ fn run(t: &[u16; 8466], u: &mut [u64; 2112], limit: usize, q: &mut [u8], budget:
                     let w = x.stack[depth];
                     kind = kind_in(w);
                     s = stmt_in(w);
-                    continue;
+                } else {
+                    if limit <= depth {
+                        return stopped(Stop::Frames, s, budget - left, records);
+                    }
+                    depth = depth + 1;
+                    x.stack[depth] = frame_word(LOOP, s, tag);
+                    tag = eval::join(t, tag, eval::tag_of(v));
+                    s = named(t, s, 2);
+                    kind = kind_at(t, s);
                 }
-                if limit <= depth {
-                    return stopped(Stop::Frames, s, budget - left, records);
-                }
-                depth = depth + 1;
-                x.stack[depth] = frame_word(LOOP, s, tag);
-                tag = eval::join(t, tag, eval::tag_of(v));
-                s = named(t, s, 2);
-                kind = kind_at(t, s);
             }
             6 => {
                 let v = eval::value(t, u, named(t, s, 1));
@@ -227,11 +227,11 @@ fn run(t: &[u16; 8466], u: &mut [u64; 2112], limit: usize, q: &mut [u8], budget:
                     let w = x.stack[depth];
                     kind = kind_in(w);
                     s = stmt_in(w);
-                    continue;
+                } else {
+                    tag = eval::join(t, tag, eval::tag_of(v));
+                    s = named(t, s, 2);
+                    kind = kind_at(t, s);
                 }
-                tag = eval::join(t, tag, eval::tag_of(v));
-                s = named(t, s, 2);
-                kind = kind_at(t, s);
             }
             _ => {
                 return Outcome {

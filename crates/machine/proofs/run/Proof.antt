@@ -580,11 +580,11 @@ loop-less-13 c = search needs
 loop-again-13 : tie.Need-loop-again-13 Inv-loop μ-loop
 loop-again-13 c = λ r p a l. let g = c .before .before .before .before .before .before .before .before .before .before .before .before .loop .inv r p a l in repeats-on g (pos-of-ne-zero (c .before .before .before .before .before .before .before .before .before .before .before .if1 .left)) (c .before .before .before .before .before .before .before .before .before .before .match .keys10) (tests-yes (policyOf p) (recipeOf r) (held-now g) (branch-now g) (c .before .before .before .before .before .before .before .value5 .result) (value-found (g .ready) (loop-names g (pos-of-ne-zero (c .before .before .before .before .before .before .before .before .before .before .before .if1 .left)) (c .before .before .before .before .before .before .before .before .before .before .match .keys10) .0) (rw (c .before .before .before .before .before .before .before .before .named14 .ensures) at (c .before .before .before .before .before .before .before .value5 .ensures)) (c .before .before .before .before .before .before .if16 .left)) (c .before .before .before .before .before .word-of4 .ensures) _ (c .before .before .before .before .if17 .left)) (c .before .named15 .ensures) (join-is (g .ready) (g .standing .branch) (tag-found (g .ready) (loop-names g (pos-of-ne-zero (c .before .before .before .before .before .before .before .before .before .before .before .if1 .left)) (c .before .before .before .before .before .before .before .before .before .before .match .keys10) .0) (rw (c .before .before .before .before .before .before .before .before .named14 .ensures) at (c .before .before .before .before .before .before .before .value5 .ensures)) (c .before .before .before .before .before .before .if16 .left)) (rw (c .before .before .before .tag-of3 .ensures) at (c .before .before .join3 .ensures))) (c .kind-at7 .ensures)
 
-sub-t131 : tie.Need-sub-t131 Inv-loop μ-loop
-sub-t131 c = omega (arith, (c .before .before .loop .inv (c .before .before .before .before .before .pre .recipe) (c .before .before .before .before .before .pre .policy) (c .before .before .before .before .before .pre .ready) (c .before .before .before .before .before .pre .limited)) .few)
+sub-t135 : tie.Need-sub-t135 Inv-loop μ-loop
+sub-t135 c = omega (arith, (c .before .before .loop .inv (c .before .before .before .before .before .pre .recipe) (c .before .before .before .before .before .pre .policy) (c .before .before .before .before .before .pre .ready) (c .before .before .before .before .before .pre .limited)) .few)
 
-sub-t132 : tie.Need-sub-t132 Inv-loop μ-loop
-sub-t132 c = omega (arith, (c .before .before .loop .inv (c .before .before .before .before .before .pre .recipe) (c .before .before .before .before .before .pre .policy) (c .before .before .before .before .before .pre .ready) (c .before .before .before .before .before .pre .limited)) .few, (pos-of-ne-zero (c .before .if1 .left)))
+sub-t136 : tie.Need-sub-t136 Inv-loop μ-loop
+sub-t136 c = omega (arith, (c .before .before .loop .inv (c .before .before .before .before .before .pre .recipe) (c .before .before .before .before .before .pre .policy) (c .before .before .before .before .before .pre .ready) (c .before .before .before .before .before .pre .limited)) .few, (pos-of-ne-zero (c .before .if1 .left)))
 
 same-length-15 : tie.Need-same-length-15 Inv-loop μ-loop
 same-length-15 c = (c .before .before .loop .inv (c .before .before .before .before .before .pre .recipe) (c .before .before .before .before .before .pre .policy) (c .before .before .before .before .before .pre .ready) (c .before .before .before .before .before .pre .limited)) .same-room
@@ -783,7 +783,7 @@ run-spec =
     kind-at-requires-7
     loop-less-13
     loop-again-13
-    sub-t131
-    sub-t132
+    sub-t135
+    sub-t136
     same-length-15
     returns-15)
