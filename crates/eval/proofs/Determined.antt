@@ -4,6 +4,7 @@ use mathlib.Core.Path.{_≡_, sym, _∙_}
 use Rattle.eval.proofs.word_of.Reads as word-of
 use Rattle.eval.proofs.tag_of.Reads as tag-of
 use Rattle.eval.proofs.stop_of.Reads as stop-of
+use Rattle.eval.proofs.answer.Reads as answer
 use Rattle.eval.proofs.join.Reads as join
 use Rattle.eval.proofs.tag_at.Reads as tag-at
 use Rattle.eval.proofs.value.Reads as value
@@ -16,6 +17,9 @@ tag-of-one κs a r s x y p q = p ∙ sym q
 
 pub stop-of-one : (κs : _) (a : _) (r s : _) (x y : _) → stop-of.Post κs a r x → stop-of.Post κs a s y → r ≡ s
 stop-of-one κs a r s x y p q = p ∙ sym q
+
+pub answer-one : (κs : _) (a : _) (r s : _) (x y : _) → answer.Post κs a r x → answer.Post κs a s y → r ≡ s
+answer-one κs a r s x y p q = p ∙ sym q
 
 pub join-one : (κs : _) (a : _) (r s : _) (x y : _) → join.Post κs a r x → join.Post κs a s y → r ≡ s
 join-one κs a r s x y p q = p ∙ sym q

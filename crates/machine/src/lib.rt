@@ -80,7 +80,7 @@ fn stopped(h: Stop, s: usize, steps: u32, records: u32) -> Outcome
 // ---- the run
 
 // One turn of the loop is one step. kind and s say what is done next: statement s of that kind is begun, or the top frame of
-// that kind, which names s, is taken.
+// that kind, which names s, is taken. No arm goes back to the top by itself: with one way back the compiler keeps one loop.
 fn run(t: &[u16; 8466], u: &mut [u64; 2112], limit: usize, q: &mut [u8], budget: u32) -> Outcome
     requires { ⌜ RunGiven (now t) (now u) limit ⌝ }
     ensures { λ o. ⌜ ((r p : List ℕ) → Ready r p (now (t .entry)) (now (u .entry)) → limit ≡ recipeOf r .stmts → RunAs r p (now (t .entry)) (now (u .entry)) (now (q .entry)) budget o (now (u .exit)) (now (q .exit))) ⌝ }

@@ -181,13 +181,13 @@ there-ports R ports h = up-all (R .stmts) _ λ s l. passes _ (ok-port ports (R .
 -- ---- the policy
 
 -- the four laws in one test
-pub record LawAt (P : Policy) (t u w : ℕ) : Type 0 where
-  pub commutes : P .join t u ≡ P .join u t
-  pub associates : P .join (P .join t u) w ≡ P .join t (P .join u w)
-  pub itself : P .join t t ≡ t
-  pub zero-least : P .join 0 t ≡ t
+record LawAt (P : Policy) (t u w : ℕ) : Type 0 where
+  commutes : P .join t u ≡ P .join u t
+  associates : P .join (P .join t u) w ≡ P .join t (P .join u w)
+  itself : P .join t t ≡ t
+  zero-least : P .join 0 t ≡ t
 
-pub law-at : (P : Policy) (t u w : ℕ) → lawAt P t u w ≡ true → LawAt P t u w
+law-at : (P : Policy) (t u w : ℕ) → lawAt P t u w ≡ true → LawAt P t u w
 unfolding lawAt
 law-at P t u w h =
     let h2 = and-left _ _ h in
@@ -199,7 +199,7 @@ law-at P t u w h =
       zero-least = eqb-true _ _ (and-right _ _ h);
     }
 
-pub at-law : (P : Policy) (t u w : ℕ) → LawAt P t u w → lawAt P t u w ≡ true
+at-law : (P : Policy) (t u w : ℕ) → LawAt P t u w → lawAt P t u w ≡ true
 unfolding lawAt
 at-law P t u w l = and-both (and-both (and-both (eq-eqb _ _ (l .commutes)) (eq-eqb _ _ (l .associates))) (eq-eqb _ _ (l .itself))) (eq-eqb _ _ (l .zero-least))
 

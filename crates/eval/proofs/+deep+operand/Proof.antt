@@ -1,3 +1,4 @@
+-- An operator's answer follows from its operands', whose numbers are lower. Assumes nothing.
 use native.Mathlib.Omega.{arith}
 use Rattle.eval.proofs.Values.{left-lower, left-there, right-lower, right-there, left-fault, one-asks, one-value, right-fault, two-asks, two-value}
 use Prim.Native.Nat.{ℕ, _+_, _*_, _<_}
@@ -32,245 +33,101 @@ operand-at t = and 2 operand-kinds.ps (is 2 operand-kinds.ps μ-operand t) opera
 abbrev operand-below : ℕ → In 2 operand-kinds.ps
 operand-below t = and 2 operand-kinds.ps (falls 2 operand-kinds.ps _<_ μ-operand t) operand.Pre
 
-deep-mul-k : (t : ℕ) → deep-lts.Need-mul-k (
-  operand-below t,
-  operand.Post,
-  apply-reads.Asked,
-  apply-reads.Learnt,
-) (deep-at t) deep.Post
+abbrev deep-claims : ℕ → deep-lts.Claims
+deep-claims t = (operand-below t, operand.Post, apply-reads.Asked, apply-reads.Learnt)
+
+abbrev operand-claims : ℕ → operand-lts.Claims
+operand-claims t = (flat-reads.Asked, flat-reads.Learnt, deep-below t, deep.Post)
+
+deep-mul-k : (t : ℕ) → deep-lts.Need-mul-k (deep-claims t) (deep-at t) deep.Post
 deep-mul-k t c = omega (arith, c .pre .1 .0 .ready .recipe .counts .few-exprs, c .pre .1 .0 .there)
 
-deep-mul-k-2 : (t : ℕ) → deep-lts.Need-mul-k-2 (
-  operand-below t,
-  operand.Post,
-  apply-reads.Asked,
-  apply-reads.Learnt,
-) (deep-at t) deep.Post
+deep-mul-k-2 : (t : ℕ) → deep-lts.Need-mul-k-2 (deep-claims t) (deep-at t) deep.Post
 deep-mul-k-2 t c = omega (arith, c .pre .1 .0 .ready .recipe .counts .few-exprs, c .pre .1 .0 .there)
 
-deep-element-copy-out-k : (t : ℕ) → deep-lts.Need-element-copy-out-k (
-  operand-below t,
-  operand.Post,
-  apply-reads.Asked,
-  apply-reads.Learnt,
-) (deep-at t) deep.Post
+deep-element-copy-out-k : (t : ℕ) → deep-lts.Need-element-copy-out-k (deep-claims t) (deep-at t) deep.Post
 deep-element-copy-out-k t c = omega (arith, c .pre .1 .0 .ready .recipe .counts .few-exprs, c .pre .1 .0 .there)
 
-deep-sub-k : (t : ℕ) → deep-lts.Need-sub-k (
-  operand-below t,
-  operand.Post,
-  apply-reads.Asked,
-  apply-reads.Learnt,
-) (deep-at t) deep.Post
+deep-sub-k : (t : ℕ) → deep-lts.Need-sub-k (deep-claims t) (deep-at t) deep.Post
 deep-sub-k t c = c .before .pre .1 .1
 
-deep-mul-operand : (t : ℕ) → deep-lts.Need-mul-operand (
-  operand-below t,
-  operand.Post,
-  apply-reads.Asked,
-  apply-reads.Learnt,
-) (deep-at t) deep.Post
+deep-mul-operand : (t : ℕ) → deep-lts.Need-mul-operand (deep-claims t) (deep-at t) deep.Post
 deep-mul-operand t c = omega (arith, c .before .pre .1 .0 .ready .recipe .counts .few-exprs, c .before .pre .1 .0 .there)
 
-deep-add-operand : (t : ℕ) → deep-lts.Need-add-operand (
-  operand-below t,
-  operand.Post,
-  apply-reads.Asked,
-  apply-reads.Learnt,
-) (deep-at t) deep.Post
+deep-add-operand : (t : ℕ) → deep-lts.Need-add-operand (deep-claims t) (deep-at t) deep.Post
 deep-add-operand t c = omega (arith, c .before .pre .1 .0 .ready .recipe .counts .few-exprs, c .before .pre .1 .0 .there)
 
-deep-mul-operand-2 : (t : ℕ) → deep-lts.Need-mul-operand-2 (
-  operand-below t,
-  operand.Post,
-  apply-reads.Asked,
-  apply-reads.Learnt,
-) (deep-at t) deep.Post
+deep-mul-operand-2 : (t : ℕ) → deep-lts.Need-mul-operand-2 (deep-claims t) (deep-at t) deep.Post
 deep-mul-operand-2 t c = omega (arith, c .before .pre .1 .0 .ready .recipe .counts .few-exprs, c .before .pre .1 .0 .there)
 
-deep-element-copy-out-operand : (t : ℕ) → deep-lts.Need-element-copy-out-operand (
-  operand-below t,
-  operand.Post,
-  apply-reads.Asked,
-  apply-reads.Learnt,
-) (deep-at t) deep.Post
+deep-element-copy-out-operand : (t : ℕ) → deep-lts.Need-element-copy-out-operand (deep-claims t) (deep-at t) deep.Post
 deep-element-copy-out-operand t c = omega (arith, c .before .pre .1 .0 .ready .recipe .counts .few-exprs, c .before .pre .1 .0 .there)
 
-deep-cast-operand : (t : ℕ) → deep-lts.Need-cast-operand (
-  operand-below t,
-  operand.Post,
-  apply-reads.Asked,
-  apply-reads.Learnt,
-) (deep-at t) deep.Post
+deep-cast-operand : (t : ℕ) → deep-lts.Need-cast-operand (deep-claims t) (deep-at t) deep.Post
 deep-cast-operand t c = let g = c .before .before .pre .1 .0 in let e = c .before .before .args .e in let h = c .before .before .pre .1 .1 in omega (arith, left-lower (g .ready) e (g .there) h, c .before .before .fits .e)
 
-deep-operand-requires : (t : ℕ) → deep-lts.Need-operand-requires (
-  operand-below t,
-  operand.Post,
-  apply-reads.Asked,
-  apply-reads.Learnt,
-) (deep-at t) deep.Post
+deep-operand-requires : (t : ℕ) → deep-lts.Need-operand-requires (deep-claims t) (deep-at t) deep.Post
 deep-operand-requires t c κs = let g = c .before .before .pre .1 .0 in let e = c .before .before .args .e in let h = c .before .before .pre .1 .1 in (omega (arith, left-lower (g .ready) e (g .there) h), record { recipe = g .recipe; policy = g .policy; ready = g .ready; there = left-there (g .ready) e (g .there) h })
 
-deep-returns : (t : ℕ) → deep-lts.Need-returns (
-  operand-below t,
-  operand.Post,
-  apply-reads.Asked,
-  apply-reads.Learnt,
-) (deep-at t) deep.Post
+deep-returns : (t : ℕ) → deep-lts.Need-returns (deep-claims t) (deep-at t) deep.Post
 deep-returns t c = let e = c .before .before .before .before .args .e in let h = c .before .before .before .before .pre .1 .1 in λ r p a there. let f = c .before .operand .ensures _ _ a (left-there a e there h) in left-fault a e there h f (c .if1 .taken)
 
-deep-apply-requires : (t : ℕ) → deep-lts.Need-apply-requires (
-  operand-below t,
-  operand.Post,
-  apply-reads.Asked,
-  apply-reads.Learnt,
-) (deep-at t) deep.Post
+deep-apply-requires : (t : ℕ) → deep-lts.Need-apply-requires (deep-claims t) (deep-at t) deep.Post
 deep-apply-requires t c κs = let g = c .before .before .before .before .before .pre .1 .0 in let e = c .before .before .before .before .before .args .e in let h = c .before .before .before .before .before .pre .1 .1 in let f = c .before .before .operand .ensures _ _ (g .ready) (left-there (g .ready) e (g .there) h) in one-asks (g .ready) e (g .there) h f (c .before .if1 .left) (c .if2 .taken) _
 
-deep-returns-2 : (t : ℕ) → deep-lts.Need-returns-2 (
-  operand-below t,
-  operand.Post,
-  apply-reads.Asked,
-  apply-reads.Learnt,
-) (deep-at t) deep.Post
+deep-returns-2 : (t : ℕ) → deep-lts.Need-returns-2 (deep-claims t) (deep-at t) deep.Post
 deep-returns-2 t c = let e = c .before .before .before .before .before .before .args .e in let h = c .before .before .before .before .before .before .pre .1 .1 in λ r p a there. let f = c .before .before .before .operand .ensures _ _ a (left-there a e there h) in one-value a e there h f (c .before .before .if1 .left) (c .before .if2 .taken) _ (c .apply .ensures)
 
-deep-mul-operand-3 : (t : ℕ) → deep-lts.Need-mul-operand-3 (
-  operand-below t,
-  operand.Post,
-  apply-reads.Asked,
-  apply-reads.Learnt,
-) (deep-at t) deep.Post
+deep-mul-operand-3 : (t : ℕ) → deep-lts.Need-mul-operand-3 (deep-claims t) (deep-at t) deep.Post
 deep-mul-operand-3 t c = omega (arith, c .before .before .before .before .before .pre .1 .0 .ready .recipe .counts .few-exprs, c .before .before .before .before .before .pre .1 .0 .there)
 
-deep-add-operand-2 : (t : ℕ) → deep-lts.Need-add-operand-2 (
-  operand-below t,
-  operand.Post,
-  apply-reads.Asked,
-  apply-reads.Learnt,
-) (deep-at t) deep.Post
+deep-add-operand-2 : (t : ℕ) → deep-lts.Need-add-operand-2 (deep-claims t) (deep-at t) deep.Post
 deep-add-operand-2 t c = omega (arith, c .before .before .before .before .before .pre .1 .0 .ready .recipe .counts .few-exprs, c .before .before .before .before .before .pre .1 .0 .there)
 
-deep-mul-operand-4 : (t : ℕ) → deep-lts.Need-mul-operand-4 (
-  operand-below t,
-  operand.Post,
-  apply-reads.Asked,
-  apply-reads.Learnt,
-) (deep-at t) deep.Post
+deep-mul-operand-4 : (t : ℕ) → deep-lts.Need-mul-operand-4 (deep-claims t) (deep-at t) deep.Post
 deep-mul-operand-4 t c = omega (arith, c .before .before .before .before .before .pre .1 .0 .ready .recipe .counts .few-exprs, c .before .before .before .before .before .pre .1 .0 .there)
 
-deep-element-copy-out-operand-2 : (t : ℕ) → deep-lts.Need-element-copy-out-operand-2 (
-  operand-below t,
-  operand.Post,
-  apply-reads.Asked,
-  apply-reads.Learnt,
-) (deep-at t) deep.Post
+deep-element-copy-out-operand-2 : (t : ℕ) → deep-lts.Need-element-copy-out-operand-2 (deep-claims t) (deep-at t) deep.Post
 deep-element-copy-out-operand-2 t c = omega (arith, c .before .before .before .before .before .pre .1 .0 .ready .recipe .counts .few-exprs, c .before .before .before .before .before .pre .1 .0 .there)
 
-deep-cast-operand-2 : (t : ℕ) → deep-lts.Need-cast-operand-2 (
-  operand-below t,
-  operand.Post,
-  apply-reads.Asked,
-  apply-reads.Learnt,
-) (deep-at t) deep.Post
+deep-cast-operand-2 : (t : ℕ) → deep-lts.Need-cast-operand-2 (deep-claims t) (deep-at t) deep.Post
 deep-cast-operand-2 t c = let g = c .before .before .before .before .before .before .pre .1 .0 in let e = c .before .before .before .before .before .before .args .e in let h = c .before .before .before .before .before .before .pre .1 .1 in omega (arith, right-lower (g .ready) e (g .there) h (c .before .if2 .left), c .before .before .before .before .before .before .fits .e)
 
-deep-operand-requires-2 : (t : ℕ) → deep-lts.Need-operand-requires-2 (
-  operand-below t,
-  operand.Post,
-  apply-reads.Asked,
-  apply-reads.Learnt,
-) (deep-at t) deep.Post
+deep-operand-requires-2 : (t : ℕ) → deep-lts.Need-operand-requires-2 (deep-claims t) (deep-at t) deep.Post
 deep-operand-requires-2 t c κs = let g = c .before .before .before .before .before .before .pre .1 .0 in let e = c .before .before .before .before .before .before .args .e in let h = c .before .before .before .before .before .before .pre .1 .1 in (omega (arith, right-lower (g .ready) e (g .there) h (c .before .if2 .left)), record { recipe = g .recipe; policy = g .policy; ready = g .ready; there = right-there (g .ready) e (g .there) h (c .before .if2 .left) })
 
-deep-returns-3 : (t : ℕ) → deep-lts.Need-returns-3 (
-  operand-below t,
-  operand.Post,
-  apply-reads.Asked,
-  apply-reads.Learnt,
-) (deep-at t) deep.Post
+deep-returns-3 : (t : ℕ) → deep-lts.Need-returns-3 (deep-claims t) (deep-at t) deep.Post
 deep-returns-3 t c = let e = c .before .before .before .before .before .before .before .before .args .e in let h = c .before .before .before .before .before .before .before .before .pre .1 .1 in λ r p a there. let f = c .before .before .before .before .before .operand .ensures _ _ a (left-there a e there h) in let k = c .before .operand2 .ensures _ _ a (right-there a e there h (c .before .before .before .if2 .left)) in right-fault a e there h f (c .before .before .before .before .if1 .left) (c .before .before .before .if2 .left) k (c .if3 .taken)
 
-deep-apply-requires-2 : (t : ℕ) → deep-lts.Need-apply-requires-2 (
-  operand-below t,
-  operand.Post,
-  apply-reads.Asked,
-  apply-reads.Learnt,
-) (deep-at t) deep.Post
+deep-apply-requires-2 : (t : ℕ) → deep-lts.Need-apply-requires-2 (deep-claims t) (deep-at t) deep.Post
 deep-apply-requires-2 t c κs = let g = c .before .before .before .before .before .before .before .before .pre .1 .0 in let e = c .before .before .before .before .before .before .before .before .args .e in let h = c .before .before .before .before .before .before .before .before .pre .1 .1 in let f = c .before .before .before .before .before .operand .ensures _ _ (g .ready) (left-there (g .ready) e (g .there) h) in let k = c .before .operand2 .ensures _ _ (g .ready) (right-there (g .ready) e (g .there) h (c .before .before .before .if2 .left)) in two-asks (g .ready) e (g .there) h f (c .before .before .before .before .if1 .left) (c .before .before .before .if2 .left) k (c .if3 .left)
 
-deep-returns-4 : (t : ℕ) → deep-lts.Need-returns-4 (
-  operand-below t,
-  operand.Post,
-  apply-reads.Asked,
-  apply-reads.Learnt,
-) (deep-at t) deep.Post
+deep-returns-4 : (t : ℕ) → deep-lts.Need-returns-4 (deep-claims t) (deep-at t) deep.Post
 deep-returns-4 t c = let e = c .before .before .before .before .before .before .before .before .before .args .e in let h = c .before .before .before .before .before .before .before .before .before .pre .1 .1 in λ r p a there. let f = c .before .before .before .before .before .before .operand .ensures _ _ a (left-there a e there h) in let k = c .before .before .operand2 .ensures _ _ a (right-there a e there h (c .before .before .before .before .if2 .left)) in two-value a e there h f (c .before .before .before .before .before .if1 .left) (c .before .before .before .before .if2 .left) k (c .before .if3 .left) (c .apply2 .ensures)
 
-operand-mul-if1 : (t : ℕ) → operand-lts.Need-mul-if1 (
-  flat-reads.Asked,
-  flat-reads.Learnt,
-  deep-below t,
-  deep.Post,
-) (operand-at t) operand.Post
+operand-mul-if1 : (t : ℕ) → operand-lts.Need-mul-if1 (operand-claims t) (operand-at t) operand.Post
 operand-mul-if1 t c = omega (arith, c .pre .1 .ready .recipe .counts .few-exprs, c .pre .1 .there)
 
-operand-mul-if1-2 : (t : ℕ) → operand-lts.Need-mul-if1-2 (
-  flat-reads.Asked,
-  flat-reads.Learnt,
-  deep-below t,
-  deep.Post,
-) (operand-at t) operand.Post
+operand-mul-if1-2 : (t : ℕ) → operand-lts.Need-mul-if1-2 (operand-claims t) (operand-at t) operand.Post
 operand-mul-if1-2 t c = omega (arith, c .pre .1 .ready .recipe .counts .few-exprs, c .pre .1 .there)
 
-operand-element-copy-out-if1 : (t : ℕ) → operand-lts.Need-element-copy-out-if1 (
-  flat-reads.Asked,
-  flat-reads.Learnt,
-  deep-below t,
-  deep.Post,
-) (operand-at t) operand.Post
+operand-element-copy-out-if1 : (t : ℕ) → operand-lts.Need-element-copy-out-if1 (operand-claims t) (operand-at t) operand.Post
 operand-element-copy-out-if1 t c = omega (arith, c .pre .1 .ready .recipe .counts .few-exprs, c .pre .1 .there)
 
-operand-flat-requires : (t : ℕ) → operand-lts.Need-flat-requires (
-  flat-reads.Asked,
-  flat-reads.Learnt,
-  deep-below t,
-  deep.Post,
-) (operand-at t) operand.Post
+operand-flat-requires : (t : ℕ) → operand-lts.Need-flat-requires (operand-claims t) (operand-at t) operand.Post
 operand-flat-requires t c κs = (c .before .before .pre .1, c .if1 .taken)
 
-operand-returns : (t : ℕ) → operand-lts.Need-returns (
-  flat-reads.Asked,
-  flat-reads.Learnt,
-  deep-below t,
-  deep.Post,
-) (operand-at t) operand.Post
+operand-returns : (t : ℕ) → operand-lts.Need-returns (operand-claims t) (operand-at t) operand.Post
 operand-returns t c = c .flat .ensures
 
-operand-deep-requires : (t : ℕ) → operand-lts.Need-deep-requires (
-  flat-reads.Asked,
-  flat-reads.Learnt,
-  deep-below t,
-  deep.Post,
-) (operand-at t) operand.Post
+operand-deep-requires : (t : ℕ) → operand-lts.Need-deep-requires (operand-claims t) (operand-at t) operand.Post
 operand-deep-requires t c κs = (omega arith, (c .before .before .pre .1, c .if1 .left))
 
-operand-returns-2 : (t : ℕ) → operand-lts.Need-returns-2 (
-  flat-reads.Asked,
-  flat-reads.Learnt,
-  deep-below t,
-  deep.Post,
-) (operand-at t) operand.Post
+operand-returns-2 : (t : ℕ) → operand-lts.Need-returns-2 (operand-claims t) (operand-at t) operand.Post
 operand-returns-2 t c = c .deep .ensures
 
 pub +deep+operand-spec : {M : Type 1} → statement M
-+deep+operand-spec = close μ-deep μ-operand (λ t. deep-lts.spec (
-  operand-below t,
-  operand.Post,
-  apply-reads.Asked,
-  apply-reads.Learnt,
-)
++deep+operand-spec = close μ-deep μ-operand (λ t. deep-lts.spec (deep-claims t)
     (deep-at t)
     deep.Post
     (deep-mul-k t)
@@ -296,7 +153,7 @@ pub +deep+operand-spec : {M : Type 1} → statement M
     (deep-apply-requires-2 t)
     (deep-returns-4 t))
     λ t. operand-lts.spec
-    (flat-reads.Asked, flat-reads.Learnt, deep-below t, deep.Post)
+    (operand-claims t)
     (operand-at t)
     operand.Post
     (operand-mul-if1 t)

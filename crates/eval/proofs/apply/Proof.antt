@@ -1,3 +1,4 @@
+-- Each number is the operation of its operator; a divisor that passed the test is not zero. Assumes nothing.
 use Prim.Native.Nat.{_≤_}
 use native.Mathlib.Omega.{arith}
 use mathlib.Core.Path.{sym, _∙_, _≡_}
@@ -11,24 +12,6 @@ use Rattle.eval.specs.Packed.{wordIn, appliedIn}
 use borrow.Author.Needs.{needs}
 use Rattle.eval.proofs.apply.Statement.{statement}
 use Rattle.eval.proofs.apply.Tie as tie
-use Rattle.eval.proofs.apply.Reads as reads
-use Rattle.eval.proofs.apply.Lts as lts
-use Rattle.eval.proofs.both.Reads as both-reads
-use Rattle.eval.proofs.cell.Reads as cell-reads
-use Rattle.eval.proofs.one.Reads as one-reads
-use Rattle.eval.proofs.word_of.Reads as word-of-reads
-use Rattle.words.proofs.abs.Reads as abs-reads
-use Rattle.words.proofs.add.Reads as add-reads
-use Rattle.words.proofs.div.Reads as div-reads
-use Rattle.words.proofs.is_equal.Reads as is-equal-reads
-use Rattle.words.proofs.is_less.Reads as is-less-reads
-use Rattle.words.proofs.is_less_equal.Reads as is-less-equal-reads
-use Rattle.words.proofs.is_not_equal.Reads as is-not-equal-reads
-use Rattle.words.proofs.mul.Reads as mul-reads
-use Rattle.words.proofs.neg.Reads as neg-reads
-use Rattle.words.proofs.not.Reads as not-reads
-use Rattle.words.proofs.rem.Reads as rem-reads
-use Rattle.words.proofs.sub.Reads as sub-reads
 
 word-of-requires : tie.Need-word-of-requires
 word-of-requires c κs = search needs

@@ -1,3 +1,4 @@
+-- A cell stands after the variables. Assumes nothing.
 use Prim.Native.Nat.{_<_}
 use native.Mathlib.Omega.{arith}
 use lib.ListN.{getD}
@@ -9,10 +10,6 @@ use Rattle.eval.specs.Packed.{wordIn}
 use borrow.Author.Needs.{needs}
 use Rattle.eval.proofs.cell.Statement.{statement}
 use Rattle.eval.proofs.cell.Tie as tie
-use Rattle.eval.proofs.cell.Reads as reads
-use Rattle.eval.proofs.cell.Lts as lts
-use Rattle.eval.proofs.both.Reads as both-reads
-use Rattle.eval.proofs.word_of.Reads as word-of-reads
 
 element-copy-out-if1 : tie.Need-element-copy-out-if1
 element-copy-out-if1 c = search needs

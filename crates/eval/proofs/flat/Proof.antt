@@ -1,11 +1,9 @@
+-- The operands are leaves, read where they stand. Assumes nothing.
 use native.Mathlib.Omega.{arith}
 use Rattle.eval.proofs.Values.{left-place, right-place, flat-asks, flat-value}
 use borrow.Author.Needs.{needs}
 use Rattle.eval.proofs.flat.Statement.{statement}
 use Rattle.eval.proofs.flat.Tie as tie
-use Rattle.eval.proofs.flat.Reads as reads
-use Rattle.eval.proofs.flat.Lts as lts
-use Rattle.eval.proofs.apply.Reads as apply-reads
 
 mul-a : tie.Need-mul-a
 mul-a c = omega (arith, c .pre .0 .ready .recipe .counts .few-exprs, c .pre .0 .there)
