@@ -1,5 +1,4 @@
-//! The C entry over the safe machine. All unsafe code is in this file: the
-//! five buffers become slices, and nothing else happens here.
+//! The C entry over the safe machine.
 
 #![no_std]
 
@@ -15,39 +14,10 @@ fn panicked(_: &core::panic::PanicInfo) -> ! {
     unsafe { abort() }
 }
 
-/// A C buffer as a slice; an empty one may come as NULL.
-unsafe fn lent<'a>(at: *const u8, len: usize) -> &'a [u8] {
-    if len == 0 { &[] } else { unsafe { core::slice::from_raw_parts(at, len) } }
-}
-
-unsafe fn lent_mut<'a>(at: *mut u8, len: usize) -> &'a mut [u8] {
-    if len == 0 { &mut [] } else { unsafe { core::slice::from_raw_parts_mut(at, len) } }
-}
-
 /// The core library was built to unwind and names this; nothing here unwinds.
 #[unsafe(no_mangle)]
 extern "C" fn rust_eh_personality() {}
 
-/// # Safety
-/// Each pointer leads to as many bytes as the length beside it says, for the
-/// time of the call, and the buffers do not overlap.
-#[unsafe(no_mangle)]
-pub unsafe extern "C" fn rust_judge(
-    recipe: *const u8, recipe_len: usize,
-    policy: *const u8, policy_len: usize,
-    memory: *mut u8, memory_len: usize,
-    records: *mut u8, records_len: usize,
-    report: *mut u8, report_len: usize,
-    budget: u32,
-) -> u32 {
-    let (recipe, policy, memory, records, report) = unsafe {
-        (
-            lent(recipe, recipe_len),
-            lent(policy, policy_len),
-            lent_mut(memory, memory_len),
-            lent_mut(records, records_len),
-            lent_mut(report, report_len),
-        )
-    };
-    machine::judge(recipe, policy, memory, records, report, budget)
-}
+include!("../border.rs");
+
+c_entry!(rust_judge, machine::judge);

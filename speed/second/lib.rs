@@ -1,40 +1,10 @@
 //! The C entry over the second machine, which is taken from the folder
-//! `second/` as it stands there. All unsafe code is in this file: the five
-//! buffers become slices, and nothing else happens here.
+//! `second/` as it stands there.
 
 // Public, so that what the entry does not need counts as used.
 #[path = "../../second/src/machine.rs"]
 pub mod machine;
 
-/// A C buffer as a slice; an empty one may come as NULL.
-unsafe fn lent<'a>(at: *const u8, len: usize) -> &'a [u8] {
-    if len == 0 { &[] } else { unsafe { std::slice::from_raw_parts(at, len) } }
-}
+include!("../border.rs");
 
-unsafe fn lent_mut<'a>(at: *mut u8, len: usize) -> &'a mut [u8] {
-    if len == 0 { &mut [] } else { unsafe { std::slice::from_raw_parts_mut(at, len) } }
-}
-
-/// # Safety
-/// Each pointer leads to as many bytes as the length beside it says, for the
-/// time of the call, and the buffers do not overlap.
-#[unsafe(no_mangle)]
-pub unsafe extern "C" fn second_judge(
-    recipe: *const u8, recipe_len: usize,
-    policy: *const u8, policy_len: usize,
-    memory: *mut u8, memory_len: usize,
-    records: *mut u8, records_len: usize,
-    report: *mut u8, report_len: usize,
-    budget: u32,
-) -> u32 {
-    let (recipe, policy, memory, records, report) = unsafe {
-        (
-            lent(recipe, recipe_len),
-            lent(policy, policy_len),
-            lent_mut(memory, memory_len),
-            lent_mut(records, records_len),
-            lent_mut(report, report_len),
-        )
-    };
-    machine::judge::<machine::Paper>(recipe, policy, memory, records, report, budget)
-}
+c_entry!(second_judge, machine::judge::<machine::Paper>);

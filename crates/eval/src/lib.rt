@@ -1,13 +1,11 @@
 // Evaluation over the decoded tables t and the places u: an expression's value with its tag, or the fault that ends the run, as
 // one word, so that it stays in a register. A place is held as such a word too.
 ghost use mathlib.Core.Path.{_≡_};
-ghost use mathlib.Core.List.{List};
-ghost use Prim.Native.Nat.{ℕ, _+_, _-_, _*_, _/_, _%_, _<_, _≤_};
+ghost use Prim.Native.Nat.{_+_, _-_, _*_, _/_, _%_, _<_, _≤_};
 ghost use lib.ListN.{getD};
-ghost use Rattle.rules.specs.Recipe.{recipeOf};
 ghost use Rattle.layout.specs.Tables.{joinIn};
-ghost use Rattle.layout.specs.Places.{Ready, ExprGiven, valueIn};
-ghost use Rattle.layout.specs.Answers.{answerOf, stopFrom};
+ghost use Rattle.layout.specs.Places.{ExprGiven, Answered};
+ghost use Rattle.layout.specs.Answers.{stopFrom};
 ghost use Rattle.eval.specs.Packed.{tagIn, cellIn, appliedIn, CellAsked, Applies};
 use rules::Stop;
 
@@ -140,7 +138,7 @@ fn apply(t: &[u16; 8466], u: &[u64; 2112], k: u16, x: u64, y: u64) -> u64
 // The operands are leaves, named by their places. What has no second operand names place 0 there.
 fn flat(t: &[u16; 8466], u: &[u64; 2112], e: usize) -> u64
     requires { ⌜ ExprGiven (now t) (now u) e × (getD (now t) (4 * e) 0 < 16) ⌝ }
-    ensures { λ x. ⌜ ((r p : List ℕ) → Ready r p (now (t .entry)) (now (u .entry)) → e < recipeOf r .exprs → x ≡ answerOf (valueIn r p (now (u .entry)) e)) ⌝ }
+    ensures { λ x. ⌜ Answered (now (t .entry)) (now (u .entry)) e x ⌝ }
 {
     let a = t[4 * e + 1] as usize;
     let b = t[4 * e + 2] as usize;
@@ -149,7 +147,7 @@ fn flat(t: &[u16; 8466], u: &[u64; 2112], e: usize) -> u64
 
 fn operand(t: &[u16; 8466], u: &[u64; 2112], e: usize) -> u64
     requires { ⌜ ExprGiven (now t) (now u) e ⌝ }
-    ensures { λ x. ⌜ ((r p : List ℕ) → Ready r p (now (t .entry)) (now (u .entry)) → e < recipeOf r .exprs → x ≡ answerOf (valueIn r p (now (u .entry)) e)) ⌝ }
+    ensures { λ x. ⌜ Answered (now (t .entry)) (now (u .entry)) e x ⌝ }
 {
     if t[4 * e] < 16 {
         return flat(t, u, e);
@@ -160,7 +158,7 @@ fn operand(t: &[u16; 8466], u: &[u64; 2112], e: usize) -> u64
 // Operands have lower numbers than their user, so the expression's own number falls.
 fn deep(t: &[u16; 8466], u: &[u64; 2112], e: usize) -> u64
     requires { ⌜ ExprGiven (now t) (now u) e × (16 ≤ getD (now t) (4 * e) 0) ⌝ }
-    ensures { λ x. ⌜ ((r p : List ℕ) → Ready r p (now (t .entry)) (now (u .entry)) → e < recipeOf r .exprs → x ≡ answerOf (valueIn r p (now (u .entry)) e)) ⌝ }
+    ensures { λ x. ⌜ Answered (now (t .entry)) (now (u .entry)) e x ⌝ }
 {
     let k = t[4 * e] - 16;
     let x = operand(t, u, t[4 * e + 1] as usize);
@@ -180,7 +178,7 @@ fn deep(t: &[u16; 8466], u: &[u64; 2112], e: usize) -> u64
 // The same as operand, but no part of the recursion, so that it costs its callers no saved registers.
 pub fn value(t: &[u16; 8466], u: &[u64; 2112], e: usize) -> u64
     requires { ⌜ ExprGiven (now t) (now u) e ⌝ }
-    ensures { λ x. ⌜ ((r p : List ℕ) → Ready r p (now (t .entry)) (now (u .entry)) → e < recipeOf r .exprs → x ≡ answerOf (valueIn r p (now (u .entry)) e)) ⌝ }
+    ensures { λ x. ⌜ Answered (now (t .entry)) (now (u .entry)) e x ⌝ }
 {
     if t[4 * e] < 16 {
         return flat(t, u, e);

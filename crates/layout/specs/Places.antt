@@ -15,7 +15,7 @@ use Rattle.rules.specs.Memory.{Memory, _#_, count}
 use Rattle.rules.specs.Steps.{eval}
 use Rattle.rules.specs.Accepted.{WellFormed, LawfulPolicy, PortsOk}
 use Rattle.layout.specs.Tables.{Decoded}
-use Rattle.layout.specs.Answers.{worthOf}
+use Rattle.layout.specs.Answers.{answerOf, worthOf}
 
 abbrev pub placeIn : (u : List ℕ) (i : ℕ) → Place
 placeIn u i = worthOf (getD u i 0)
@@ -49,8 +49,11 @@ pub record Ready (r p t u : List ℕ) : Type 0 where
 abbrev pub valueIn : (r p u : List ℕ) → ℕ → Valued
 valueIn r p u e = eval (policyOf p) (recipeOf r) (heldIn (recipeOf r) u) e
 
--- there are accepted tables that t and u hold, and e is one of their expressions
+-- x is the answer of expression e, for all accepted tables that t and u hold
+abbrev pub Answered : (t u : List ℕ) (e x : ℕ) → Type 0
+Answered t u e x = (r p : List ℕ) → Ready r p t u → e < recipeOf r .exprs → x ≡ answerOf (valueIn r p u e)
 
+-- there are accepted tables that t and u hold, and e is one of their expressions
 pub record ExprGiven (t u : List ℕ) (e : ℕ) : Type 0 where
   pub recipe : List ℕ
   pub policy : List ℕ

@@ -21,7 +21,7 @@ use Rattle.rules.proofs.Standing.{Proper, fault, value, proper}
 use Rattle.rules.proofs.Tags.{is-under, under-is}
 use Rattle.rules.proofs.Tests.{fails}
 use Rattle.layout.specs.Tables.{joinIn}
-use Rattle.layout.specs.Places.{Ready, heldIn, valueIn}
+use Rattle.layout.specs.Places.{Ready, heldIn, valueIn, Answered}
 use Rattle.layout.specs.Answers.{answerOf, stopFrom, worthOf}
 use Rattle.layout.proofs.Places.{sound-ready, places-ready, place-held}
 use Rattle.layout.proofs.Answers.{Answer, answers, worth, failed, stop-below}
@@ -62,10 +62,6 @@ module _ (q : Place) {v : ℕ} (l : valueOf q < 2 ^ 32) (e : v ≡ answerOf (Val
 
   pub tag-is : v / 4294967296 ≡ tagOf q
   tag-is = omega arith
-
--- what evaluating expression e answered
-abbrev Answered : (t u : List ℕ) (e x : ℕ) → Type 0
-Answered t u e x = (r p : List ℕ) → Ready r p t u → e < recipeOf r .exprs → x ≡ answerOf (valueIn r p u e)
 
 module _ {r p t u : List ℕ} (a : Ready r p t u) where
   module _ {e : ℕ} (h : e < recipeOf r .exprs) {x : ℕ} (q : Answered t u e x) where
