@@ -2,17 +2,15 @@
 -- stands above. Assumes nothing.
 use Prim.Native.Nat.{ℕ, _+_, _*_, _<_}
 use mathlib.Core.Path.{_≡_}
-use mathlib.Core.Bool.{Bool}
 use mathlib.Core.List.{List}
 use lib.ListN.{length, getD}
 use Rattle.rules.specs.declared.Expr.{Expr}
 use Rattle.rules.specs.declared.Stmt.{Stmt}
 use Rattle.rules.specs.Bytes.{byte, whole}
 use Rattle.rules.specs.Policy.{policyOf}
-use Rattle.rules.specs.Checks.{_and_}
 use Rattle.rules.specs.Recipe.{Recipe, recipeOf}
 use Rattle.rules.specs.Memory.{_#_}
-use Rattle.layout.specs.Tables.{operatorOf, leaf, flat, codeOf, operandOf, leftOf, rightOf, ExprAs, kindOf, firstOf, secondOf, thirdOf, StmtAs, joinIn}
+use Rattle.layout.specs.Tables.{operatorOf, leaf, bothLeaves, flat, codeOf, operandOf, leftOf, rightOf, ExprAs, kindOf, firstOf, secondOf, thirdOf, StmtAs, joinIn}
 use Rattle.layout.specs.Places.{placeIn, ConstantAs}
 use Rattle.decode.specs.declared.Fields.{Fields}
 
@@ -24,9 +22,6 @@ fieldsOf k a b c = record { kind = k; first = a; second = b; third = c }
 -- an operator k and its operands
 abbrev pub oneOperand : Recipe → (k a : ℕ) → Fields
 oneOperand R k a = fieldsOf (codeOf (leaf (R .exprAt a)) k) (operandOf R (leaf (R .exprAt a)) a) 0 0
-
-abbrev pub bothLeaves : Recipe → (a b : ℕ) → Bool
-bothLeaves R a b = leaf (R .exprAt a) and leaf (R .exprAt b)
 
 abbrev pub twoOperands : Recipe → (k a b : ℕ) → Fields
 twoOperands R k a b = fieldsOf (codeOf (bothLeaves R a b) k) (operandOf R (bothLeaves R a b) a) (operandOf R (bothLeaves R a b) b) 0

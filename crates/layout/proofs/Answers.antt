@@ -1,4 +1,4 @@
--- An answer is taken apart again, and the numbers of operators and faults lead back. Assumes nothing.
+-- An answer is taken apart again, and the numbers of faults lead back; the ranges of the operators' numbers. Assumes nothing.
 use Prim.Native.Nat.{ℕ, _+_, _-_, _*_, _/_, _%_, _^_, _<_, _≤_}
 use native.Mathlib.Omega.{arith}
 use mathlib.Core.Path.{_≡_, refl}
@@ -15,34 +15,16 @@ use Rattle.rules.specs.Policy.{Policy}
 use Rattle.rules.specs.Memory.{valueOf, tagOf}
 use Rattle.rules.specs.Ends.{stopNumber}
 use Rattle.rules.proofs.Standing.{PlaceOk, Proper, fault, value}
-use Rattle.layout.specs.Tables.{unaryNumber, binaryNumber, unaryFrom, binaryFrom}
+use Rattle.layout.specs.Tables.{unaryNumber, binaryNumber}
 use Rattle.layout.specs.Answers.{answerOf, worthOf, stopFrom}
 
 -- ---- numbers
-
-pub unary-back : (op : UnaryOp) → unaryFrom (unaryNumber op) ≡ op
-unfolding unaryFrom unaryNumber
-unary-back Negate = refl
-unary-back Not = refl
-unary-back Absolute = refl
 
 pub unary-range : (op : UnaryOp) → (2 ≤ unaryNumber op) × (unaryNumber op < 5)
 unfolding unaryNumber
 unary-range Negate = (omega arith, omega arith)
 unary-range Not = (omega arith, omega arith)
 unary-range Absolute = (omega arith, omega arith)
-
-pub binary-back : (op : BinaryOp) → binaryFrom (binaryNumber op) ≡ op
-unfolding binaryFrom binaryNumber
-binary-back Add = refl
-binary-back Sub = refl
-binary-back Mul = refl
-binary-back Div = refl
-binary-back Rem = refl
-binary-back Less = refl
-binary-back LessEq = refl
-binary-back Equal = refl
-binary-back NotEqual = refl
 
 pub binary-range : (op : BinaryOp) → (5 ≤ binaryNumber op) × (binaryNumber op < 14)
 unfolding binaryNumber

@@ -68,13 +68,16 @@ placeOf e (Unary op a) = 0
 placeOf e (Binary op a b) = 0
 placeOf e BadExpr = 0
 
+abbrev pub bothLeaves : Recipe → (a b : ℕ) → Bool
+bothLeaves R a b = leaf (R .exprAt a) and leaf (R .exprAt b)
+
 -- an expression is flat if its operands are leaves
 abbrev pub flat : Recipe → Expr → Bool
 flat R (Constant w) = true
 flat R (Variable x) = true
 flat R (Cell i) = leaf (R .exprAt i)
 flat R (Unary op a) = leaf (R .exprAt a)
-flat R (Binary op a b) = leaf (R .exprAt a) and leaf (R .exprAt b)
+flat R (Binary op a b) = bothLeaves R a b
 flat R BadExpr = true
 
 -- a flat expression names its operands' places, another one, by a code 16 above its operator's, the operands
