@@ -357,6 +357,14 @@ module _ {r p t u : List ℕ} (a : Ready r p t u) where
       pub flat-value : {z : ℕ} → z ≡ appliedIn t u code (getD u left 0) (getD u right 0) → z ≡ answerOf (valueIn r p u e)
       flat-value q = rw (shape .is) (q ∙ on-op code left-worth right-worth)
 
+    module _ (h : code ≡ 0) where
+      pub leaf-place : left < 2112
+      leaf-place = left-place (omega (arith, h))
+
+      pub leaf-value : getD u left 0 ≡ answerOf (valueIn r p u e)
+      unfolding appliedIn
+      leaf-value = flat-value (omega (arith, h)) (rw h refl)
+
     module _ (h : 16 ≤ code) where
       abbrev form : Deep e code left right (valueIn r p u e)
       form = is-deep (kind e there) h

@@ -135,6 +135,14 @@ fn apply(t: &[u16; 8466], u: &[u64; 2112], k: u16, x: u64, y: u64) -> u64
 
 // ---- expressions by their numbers
 
+// A constant or a variable.
+fn leaf(t: &[u16; 8466], u: &[u64; 2112], e: usize) -> u64
+    requires { ⌜ ExprGiven (now t) (now u) e × (getD (now t) (4 * e) 0 ≡ 0) ⌝ }
+    ensures { λ x. ⌜ Answered (now (t .entry)) (now (u .entry)) e x ⌝ }
+{
+    u[t[4 * e + 1] as usize]
+}
+
 // The operands are leaves, named by their places. What has no second operand names place 0 there.
 fn flat(t: &[u16; 8466], u: &[u64; 2112], e: usize) -> u64
     requires { ⌜ ExprGiven (now t) (now u) e × (getD (now t) (4 * e) 0 < 16) ⌝ }
@@ -149,6 +157,9 @@ fn operand(t: &[u16; 8466], u: &[u64; 2112], e: usize) -> u64
     requires { ⌜ ExprGiven (now t) (now u) e ⌝ }
     ensures { λ x. ⌜ Answered (now (t .entry)) (now (u .entry)) e x ⌝ }
 {
+    if t[4 * e] == 0 {
+        return leaf(t, u, e);
+    }
     if t[4 * e] < 16 {
         return flat(t, u, e);
     }
@@ -180,6 +191,9 @@ pub fn value(t: &[u16; 8466], u: &[u64; 2112], e: usize) -> u64
     requires { ⌜ ExprGiven (now t) (now u) e ⌝ }
     ensures { λ x. ⌜ Answered (now (t .entry)) (now (u .entry)) e x ⌝ }
 {
+    if t[4 * e] == 0 {
+        return leaf(t, u, e);
+    }
     if t[4 * e] < 16 {
         return flat(t, u, e);
     }

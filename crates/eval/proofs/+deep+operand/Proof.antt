@@ -11,6 +11,7 @@ use Rattle.eval.proofs.operand.Reads as operand
 use Rattle.eval.proofs.operand.Kinds as operand-kinds
 use Rattle.eval.proofs.+deep+operand.Lts-operand as operand-lts
 use Rattle.eval.proofs.apply.Reads as apply-reads
+use Rattle.eval.proofs.leaf.Reads as leaf-reads
 use Rattle.eval.proofs.flat.Reads as flat-reads
 use Rattle.eval.proofs.+deep+operand.{statement}
 use Rattle.eval.proofs.+deep+operand.Tie.{close}
@@ -37,7 +38,7 @@ abbrev deep-claims : ℕ → deep-lts.Claims
 deep-claims t = (operand-below t, operand.Post, apply-reads.Asked, apply-reads.Learnt)
 
 abbrev operand-claims : ℕ → operand-lts.Claims
-operand-claims t = (flat-reads.Asked, flat-reads.Learnt, deep-below t, deep.Post)
+operand-claims t = (leaf-reads.Asked, leaf-reads.Learnt, flat-reads.Asked, flat-reads.Learnt, deep-below t, deep.Post)
 
 deep-mul-k : (t : ℕ) → deep-lts.Need-mul-k (deep-claims t) (deep-at t) deep.Post
 deep-mul-k t c = omega (arith, c .pre .1 .0 .ready .recipe .counts .few-exprs, c .pre .1 .0 .there)
@@ -114,17 +115,32 @@ operand-mul-if1-2 t c = omega (arith, c .pre .1 .ready .recipe .counts .few-expr
 operand-element-copy-out-if1 : (t : ℕ) → operand-lts.Need-element-copy-out-if1 (operand-claims t) (operand-at t) operand.Post
 operand-element-copy-out-if1 t c = omega (arith, c .pre .1 .ready .recipe .counts .few-exprs, c .pre .1 .there)
 
-operand-flat-requires : (t : ℕ) → operand-lts.Need-flat-requires (operand-claims t) (operand-at t) operand.Post
-operand-flat-requires t c κs = (c .before .before .pre .1, c .if1 .taken)
+operand-leaf-requires : (t : ℕ) → operand-lts.Need-leaf-requires (operand-claims t) (operand-at t) operand.Post
+operand-leaf-requires t c κs = (c .before .before .pre .1, c .if1 .taken)
 
 operand-returns : (t : ℕ) → operand-lts.Need-returns (operand-claims t) (operand-at t) operand.Post
-operand-returns t c = c .flat .ensures
+operand-returns t c = c .leaf .ensures
 
-operand-deep-requires : (t : ℕ) → operand-lts.Need-deep-requires (operand-claims t) (operand-at t) operand.Post
-operand-deep-requires t c κs = (omega arith, (c .before .before .pre .1, c .if1 .left))
+operand-mul-if2 : (t : ℕ) → operand-lts.Need-mul-if2 (operand-claims t) (operand-at t) operand.Post
+operand-mul-if2 t c = omega (arith, c .before .before .pre .1 .ready .recipe .counts .few-exprs, c .before .before .pre .1 .there)
+
+operand-mul-if2-2 : (t : ℕ) → operand-lts.Need-mul-if2-2 (operand-claims t) (operand-at t) operand.Post
+operand-mul-if2-2 t c = omega (arith, c .before .before .pre .1 .ready .recipe .counts .few-exprs, c .before .before .pre .1 .there)
+
+operand-element-copy-out-if2 : (t : ℕ) → operand-lts.Need-element-copy-out-if2 (operand-claims t) (operand-at t) operand.Post
+operand-element-copy-out-if2 t c = omega (arith, c .before .before .pre .1 .ready .recipe .counts .few-exprs, c .before .before .pre .1 .there)
+
+operand-flat-requires : (t : ℕ) → operand-lts.Need-flat-requires (operand-claims t) (operand-at t) operand.Post
+operand-flat-requires t c κs = (c .before .before .before .before .pre .1, c .if2 .taken)
 
 operand-returns-2 : (t : ℕ) → operand-lts.Need-returns-2 (operand-claims t) (operand-at t) operand.Post
-operand-returns-2 t c = c .deep .ensures
+operand-returns-2 t c = c .flat .ensures
+
+operand-deep-requires : (t : ℕ) → operand-lts.Need-deep-requires (operand-claims t) (operand-at t) operand.Post
+operand-deep-requires t c κs = (omega arith, (c .before .before .before .before .pre .1, c .if2 .left))
+
+operand-returns-3 : (t : ℕ) → operand-lts.Need-returns-3 (operand-claims t) (operand-at t) operand.Post
+operand-returns-3 t c = c .deep .ensures
 
 pub +deep+operand-spec : {M : Type 1} → statement M
 +deep+operand-spec = close μ-deep μ-operand (λ t. deep-lts.spec (deep-claims t)
@@ -159,7 +175,12 @@ pub +deep+operand-spec : {M : Type 1} → statement M
     (operand-mul-if1 t)
     (operand-mul-if1-2 t)
     (operand-element-copy-out-if1 t)
-    (operand-flat-requires t)
+    (operand-leaf-requires t)
     (operand-returns t)
-    (operand-deep-requires t)
+    (operand-mul-if2 t)
+    (operand-mul-if2-2 t)
+    (operand-element-copy-out-if2 t)
+    (operand-flat-requires t)
     (operand-returns-2 t)
+    (operand-deep-requires t)
+    (operand-returns-3 t)
