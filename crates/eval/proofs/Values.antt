@@ -320,8 +320,8 @@ module _ {r p t u : List ℕ} (a : Ready r p t u) where
   on-op (suc (suc (suc (suc zero)))) x y = on-unary 4 x
   on-op (suc (suc (suc (suc (suc k))))) x y = on-binary (suc (suc (suc (suc (suc k))))) x (y (omega arith))
 
-  asks : {k x y : ℕ} {o v : Valued} → k < 14 → Worthy x o → (5 ≤ k → Worthy y v) → Applies t u k x y
-  asks few x y = record { few = few; cell = λ q. cell-asked x; tags = λ h. (few-tag (tag-of x), few-tag (tag-of (y h))) }
+  asks : {k x y : ℕ} {o v : Valued} → 0 < k → k < 14 → Worthy x o → (5 ≤ k → Worthy y v) → Applies t u k x y
+  asks some few x y = record { some = some; few = few; cell = λ q. cell-asked x; tags = λ h. (few-tag (tag-of x), few-tag (tag-of (y h))) }
 
   -- ---- expression e
 
@@ -351,8 +351,8 @@ module _ {r p t u : List ℕ} (a : Ready r p t u) where
       right-worth : 5 ≤ code → Worthy (getD u right 0) (Value (placeIn u right))
       right-worth b = place-worth right (shape .right-good b)
 
-      pub flat-asks : Applies t u code (getD u left 0) (getD u right 0)
-      flat-asks = asks (shape .few) left-worth right-worth
+      pub flat-asks : 0 < code → Applies t u code (getD u left 0) (getD u right 0)
+      flat-asks some = asks some (shape .few) left-worth right-worth
 
       pub flat-value : {z : ℕ} → z ≡ appliedIn t u code (getD u left 0) (getD u right 0) → z ≡ answerOf (valueIn r p u e)
       flat-value q = rw (shape .is) (q ∙ on-op code left-worth right-worth)
@@ -400,7 +400,7 @@ module _ {r p t u : List ℕ} (a : Ready r p t u) where
             no-second c = absurd (omega arith)
 
             pub one-asks : Applies t u (code - 16) x y
-            one-asks = asks (omega (arith, code-few)) first no-second
+            one-asks = asks (omega (arith, form .some)) (omega (arith, code-few)) first no-second
 
             pub one-value : {z : ℕ} → z ≡ appliedIn t u (code - 16) x y → z ≡ answerOf (valueIn r p u e)
             one-value q = rw (form .is) (q ∙ on-op (code - 16) first no-second)
@@ -417,7 +417,7 @@ module _ {r p t u : List ℕ} (a : Ready r p t u) where
               second = is-worth (answer-of _ g) c
 
               pub two-asks : Applies t u (code - 16) x y
-              two-asks = asks (omega (arith, code-few)) first (λ z. second)
+              two-asks = asks (omega (arith, form .some)) (omega (arith, code-few)) first (λ z. second)
 
               pub two-value : {z : ℕ} → z ≡ appliedIn t u (code - 16) x y → z ≡ answerOf (valueIn r p u e)
               two-value q = rw (form .is) (q ∙ on-op (code - 16) first (λ z. second))

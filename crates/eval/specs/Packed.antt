@@ -46,6 +46,7 @@ unfoldable pub appliedIn : (t u : List ℕ) (k x y : ℕ) → ℕ
 appliedIn t u k x y = getD (x ∷ cellIn t u x ∷ unaryIn 2 x ∷ unaryIn 3 x ∷ unaryIn 4 x ∷ []) k (binaryIn t k x y)
 
 pub record Applies (t u : List ℕ) (k x y : ℕ) : Type 0 where
+  pub some : 0 < k
   pub few : k < 14
   pub cell : k ≡ 1 → CellAsked t u x
   pub tags : 5 ≤ k → (tagIn x < 16) × (tagIn y < 16)

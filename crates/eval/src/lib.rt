@@ -106,7 +106,6 @@ fn apply(t: &[u16; 8466], u: &[u64; 2112], k: u16, x: u64, y: u64) -> u64
     let a = word_of(x);
     let b = word_of(y);
     match k {
-        0 => x,
         1 => cell(t, u, x),
         2 => one(words::neg(a), x),
         3 => one(words::not(a), x),
@@ -145,7 +144,7 @@ fn leaf(t: &[u16; 8466], u: &[u64; 2112], e: usize) -> u64
 
 // The operands are leaves, named by their places. What has no second operand names place 0 there.
 fn flat(t: &[u16; 8466], u: &[u64; 2112], e: usize) -> u64
-    requires { ⌜ ExprGiven (now t) (now u) e × (getD (now t) (4 * e) 0 < 16) ⌝ }
+    requires { ⌜ ExprGiven (now t) (now u) e × (0 < getD (now t) (4 * e) 0) × (getD (now t) (4 * e) 0 < 16) ⌝ }
     ensures { λ x. ⌜ Answered (now (t .entry)) (now (u .entry)) e x ⌝ }
 {
     let a = t[4 * e + 1] as usize;

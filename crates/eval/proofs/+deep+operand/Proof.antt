@@ -131,7 +131,7 @@ operand-element-copy-out-if2 : (t : ℕ) → operand-lts.Need-element-copy-out-i
 operand-element-copy-out-if2 t c = omega (arith, c .before .before .pre .1 .ready .recipe .counts .few-exprs, c .before .before .pre .1 .there)
 
 operand-flat-requires : (t : ℕ) → operand-lts.Need-flat-requires (operand-claims t) (operand-at t) operand.Post
-operand-flat-requires t c κs = (c .before .before .before .before .pre .1, c .if2 .taken)
+operand-flat-requires t c κs = (c .before .before .before .before .pre .1, omega (arith, c .before .before .if1 .left), c .if2 .taken)
 
 operand-returns-2 : (t : ℕ) → operand-lts.Need-returns-2 (operand-claims t) (operand-at t) operand.Post
 operand-returns-2 t c = c .flat .ensures

@@ -20,7 +20,7 @@ word-of-requires-2 : tie.Need-word-of-requires-2
 word-of-requires-2 c κs = search needs
 
 cell-requires : tie.Need-cell-requires
-cell-requires c κs = c .before .before .before .pre .cell (c .match .keys2)
+cell-requires c κs = c .before .before .before .pre .cell (c .match .keys1)
 
 neg-requires : tie.Need-neg-requires
 neg-requires c κs = search needs
@@ -44,125 +44,121 @@ add-requires : tie.Need-add-requires
 add-requires c κs = search needs
 
 both-requires : tie.Need-both-requires
-both-requires c κs = c .before .before .before .before .pre .tags (omega (arith, c .before .match .keys6))
+both-requires c κs = c .before .before .before .before .pre .tags (omega (arith, c .before .match .keys5))
 
 sub-requires : tie.Need-sub-requires
 sub-requires c κs = search needs
 
 both-requires-2 : tie.Need-both-requires-2
-both-requires-2 c κs = c .before .before .before .before .pre .tags (omega (arith, c .before .match .keys7))
+both-requires-2 c κs = c .before .before .before .before .pre .tags (omega (arith, c .before .match .keys6))
 
 mul-requires : tie.Need-mul-requires
 mul-requires c κs = search needs
 
 both-requires-3 : tie.Need-both-requires-3
-both-requires-3 c κs = c .before .before .before .before .pre .tags (omega (arith, c .before .match .keys8))
+both-requires-3 c κs = c .before .before .before .before .pre .tags (omega (arith, c .before .match .keys7))
 
 add-result : tie.Need-add-result
 add-result c = search needs
 
 returns : tie.Need-returns
 unfolding appliedIn given valueOf tagOf unary unaryFrom binary divides binaryFrom stopNumber
-returns c = let n : wordIn (c .before .before .before .before .args .y) ≡ 0 = sym (c .before .before .word-of2 .ensures) ∙ c .if1 .taken in rw (c .before .match .keys9, n)
+returns c = let n : wordIn (c .before .before .before .before .args .y) ≡ 0 = sym (c .before .before .word-of2 .ensures) ∙ c .if1 .taken in rw (c .before .match .keys8, n)
 
 div-requires : tie.Need-div-requires
 div-requires c κs = search needs
 
 both-requires-4 : tie.Need-both-requires-4
-both-requires-4 c κs = c .before .before .before .before .before .pre .tags (omega (arith, c .before .before .match .keys9))
+both-requires-4 c κs = c .before .before .before .before .before .pre .tags (omega (arith, c .before .before .match .keys8))
 
 add-result-2 : tie.Need-add-result-2
 add-result-2 c = search needs
 
 returns-2 : tie.Need-returns-2
 unfolding appliedIn given valueOf tagOf unary unaryFrom binary divides binaryFrom stopNumber
-returns-2 c = let n : wordIn (c .before .before .before .before .args .y) ≡ 0 = sym (c .before .before .word-of2 .ensures) ∙ c .if2 .taken in rw (c .before .match .keys10, n)
+returns-2 c = let n : wordIn (c .before .before .before .before .args .y) ≡ 0 = sym (c .before .before .word-of2 .ensures) ∙ c .if2 .taken in rw (c .before .match .keys9, n)
 
 rem-requires : tie.Need-rem-requires
 rem-requires c κs = search needs
 
 both-requires-5 : tie.Need-both-requires-5
-both-requires-5 c κs = c .before .before .before .before .before .pre .tags (omega (arith, c .before .before .match .keys10))
+both-requires-5 c κs = c .before .before .before .before .before .pre .tags (omega (arith, c .before .before .match .keys9))
 
 is-less-requires : tie.Need-is-less-requires
 is-less-requires c κs = search needs
 
 both-requires-6 : tie.Need-both-requires-6
-both-requires-6 c κs = c .before .before .before .before .pre .tags (omega (arith, c .before .match .keys11))
+both-requires-6 c κs = c .before .before .before .before .pre .tags (omega (arith, c .before .match .keys10))
 
 is-less-equal-requires : tie.Need-is-less-equal-requires
 is-less-equal-requires c κs = search needs
 
 both-requires-7 : tie.Need-both-requires-7
-both-requires-7 c κs = c .before .before .before .before .pre .tags (omega (arith, c .before .match .keys12))
+both-requires-7 c κs = c .before .before .before .before .pre .tags (omega (arith, c .before .match .keys11))
 
 is-equal-requires : tie.Need-is-equal-requires
 is-equal-requires c κs = search needs
 
 both-requires-8 : tie.Need-both-requires-8
-both-requires-8 c κs = c .before .before .before .before .pre .tags (omega (arith, c .before .match .keys13))
+both-requires-8 c κs = c .before .before .before .before .pre .tags (omega (arith, c .before .match .keys12))
 
 is-not-equal-requires : tie.Need-is-not-equal-requires
 is-not-equal-requires c κs = search needs
 
 both-requires-9 : tie.Need-both-requires-9
-both-requires-9 c κs = let a : 5 ≤ c .before .before .before .before .args .k = omega (arith, c .before .match .rest .0 .0 .0 .0 .0 .0 .0 .0 .0 .0 .0 .0 .1, c .before .match .rest .0 .0 .0 .0 .0 .0 .0 .0 .0 .0 .0 .1, c .before .match .rest .0 .0 .0 .0 .0 .0 .0 .0 .0 .0 .1, c .before .match .rest .0 .0 .0 .0 .0 .0 .0 .0 .0 .1, c .before .match .rest .0 .0 .0 .0 .0 .0 .0 .0 .1) in c .before .before .before .before .pre .tags a
+both-requires-9 c κs = let a : 5 ≤ c .before .before .before .before .args .k = omega (arith, c .before .before .before .before .pre .some, c .before .match .rest .0 .0 .0 .0 .0 .0 .0 .0 .0 .0 .0 .1, c .before .match .rest .0 .0 .0 .0 .0 .0 .0 .0 .0 .0 .1, c .before .match .rest .0 .0 .0 .0 .0 .0 .0 .0 .0 .1, c .before .match .rest .0 .0 .0 .0 .0 .0 .0 .0 .1) in c .before .before .before .before .pre .tags a
 
 returns-3 : tie.Need-returns-3
 unfolding appliedIn given valueOf tagOf unary unaryFrom binary divides binaryFrom stopNumber
-returns-3 c = rw (c .match .keys1)
+returns-3 c = rw (c .before .match .keys1) (c .cell .ensures)
 
 returns-4 : tie.Need-returns-4
 unfolding appliedIn given valueOf tagOf unary unaryFrom binary divides binaryFrom stopNumber
-returns-4 c = rw (c .before .match .keys2) (c .cell .ensures)
+returns-4 c = rw (c .before .before .match .keys2, c .one .ensures, c .before .neg .ensures, c .before .before .before .before .word-of .ensures)
 
 returns-5 : tie.Need-returns-5
 unfolding appliedIn given valueOf tagOf unary unaryFrom binary divides binaryFrom stopNumber
-returns-5 c = rw (c .before .before .match .keys3, c .one .ensures, c .before .neg .ensures, c .before .before .before .before .word-of .ensures)
+returns-5 c = rw (c .before .before .match .keys3, c .one2 .ensures, c .before .not .ensures, c .before .before .before .before .word-of .ensures)
 
 returns-6 : tie.Need-returns-6
 unfolding appliedIn given valueOf tagOf unary unaryFrom binary divides binaryFrom stopNumber
-returns-6 c = rw (c .before .before .match .keys4, c .one2 .ensures, c .before .not .ensures, c .before .before .before .before .word-of .ensures)
+returns-6 c = rw (c .before .before .match .keys4, c .one3 .ensures, c .before .abs .ensures, c .before .before .before .before .word-of .ensures)
 
 returns-7 : tie.Need-returns-7
 unfolding appliedIn given valueOf tagOf unary unaryFrom binary divides binaryFrom stopNumber
-returns-7 c = rw (c .before .before .match .keys5, c .one3 .ensures, c .before .abs .ensures, c .before .before .before .before .word-of .ensures)
+returns-7 c = rw (c .before .before .match .keys5, c .both .ensures, c .before .add .ensures, c .before .before .before .before .word-of .ensures, c .before .before .before .word-of2 .ensures)
 
 returns-8 : tie.Need-returns-8
 unfolding appliedIn given valueOf tagOf unary unaryFrom binary divides binaryFrom stopNumber
-returns-8 c = rw (c .before .before .match .keys6, c .both .ensures, c .before .add .ensures, c .before .before .before .before .word-of .ensures, c .before .before .before .word-of2 .ensures)
+returns-8 c = rw (c .before .before .match .keys6, c .both2 .ensures, c .before .sub .ensures, c .before .before .before .before .word-of .ensures, c .before .before .before .word-of2 .ensures)
 
 returns-9 : tie.Need-returns-9
 unfolding appliedIn given valueOf tagOf unary unaryFrom binary divides binaryFrom stopNumber
-returns-9 c = rw (c .before .before .match .keys7, c .both2 .ensures, c .before .sub .ensures, c .before .before .before .before .word-of .ensures, c .before .before .before .word-of2 .ensures)
+returns-9 c = rw (c .before .before .match .keys7, c .both3 .ensures, c .before .mul .ensures, c .before .before .before .before .word-of .ensures, c .before .before .before .word-of2 .ensures)
 
 returns-10 : tie.Need-returns-10
 unfolding appliedIn given valueOf tagOf unary unaryFrom binary divides binaryFrom stopNumber
-returns-10 c = rw (c .before .before .match .keys8, c .both3 .ensures, c .before .mul .ensures, c .before .before .before .before .word-of .ensures, c .before .before .before .word-of2 .ensures)
+returns-10 c = rw (c .before .before .before .match .keys8, ne-eqb (wordIn (c .before .before .before .before .before .before .args .y)) 0 (λ e. c .before .before .if1 .left (c .before .before .before .before .word-of2 .ensures ∙ e)), c .both4 .ensures, c .before .div .ensures, c .before .before .before .before .before .word-of .ensures, c .before .before .before .before .word-of2 .ensures)
 
 returns-11 : tie.Need-returns-11
 unfolding appliedIn given valueOf tagOf unary unaryFrom binary divides binaryFrom stopNumber
-returns-11 c = rw (c .before .before .before .match .keys9, ne-eqb (wordIn (c .before .before .before .before .before .before .args .y)) 0 (λ e. c .before .before .if1 .left (c .before .before .before .before .word-of2 .ensures ∙ e)), c .both4 .ensures, c .before .div .ensures, c .before .before .before .before .before .word-of .ensures, c .before .before .before .before .word-of2 .ensures)
+returns-11 c = rw (c .before .before .before .match .keys9, ne-eqb (wordIn (c .before .before .before .before .before .before .args .y)) 0 (λ e. c .before .before .if2 .left (c .before .before .before .before .word-of2 .ensures ∙ e)), c .both5 .ensures, c .before .rem .ensures, c .before .before .before .before .before .word-of .ensures, c .before .before .before .before .word-of2 .ensures)
 
 returns-12 : tie.Need-returns-12
 unfolding appliedIn given valueOf tagOf unary unaryFrom binary divides binaryFrom stopNumber
-returns-12 c = rw (c .before .before .before .match .keys10, ne-eqb (wordIn (c .before .before .before .before .before .before .args .y)) 0 (λ e. c .before .before .if2 .left (c .before .before .before .before .word-of2 .ensures ∙ e)), c .both5 .ensures, c .before .rem .ensures, c .before .before .before .before .before .word-of .ensures, c .before .before .before .before .word-of2 .ensures)
+returns-12 c = rw (c .before .before .match .keys10, c .both6 .ensures, c .before .is-less .ensures, c .before .before .before .before .word-of .ensures, c .before .before .before .word-of2 .ensures)
 
 returns-13 : tie.Need-returns-13
 unfolding appliedIn given valueOf tagOf unary unaryFrom binary divides binaryFrom stopNumber
-returns-13 c = rw (c .before .before .match .keys11, c .both6 .ensures, c .before .is-less .ensures, c .before .before .before .before .word-of .ensures, c .before .before .before .word-of2 .ensures)
+returns-13 c = rw (c .before .before .match .keys11, c .both7 .ensures, c .before .is-less-equal .ensures, c .before .before .before .before .word-of .ensures, c .before .before .before .word-of2 .ensures)
 
 returns-14 : tie.Need-returns-14
 unfolding appliedIn given valueOf tagOf unary unaryFrom binary divides binaryFrom stopNumber
-returns-14 c = rw (c .before .before .match .keys12, c .both7 .ensures, c .before .is-less-equal .ensures, c .before .before .before .before .word-of .ensures, c .before .before .before .word-of2 .ensures)
+returns-14 c = rw (c .before .before .match .keys12, c .both8 .ensures, c .before .is-equal .ensures, c .before .before .before .before .word-of .ensures, c .before .before .before .word-of2 .ensures)
 
 returns-15 : tie.Need-returns-15
 unfolding appliedIn given valueOf tagOf unary unaryFrom binary divides binaryFrom stopNumber
-returns-15 c = rw (c .before .before .match .keys13, c .both8 .ensures, c .before .is-equal .ensures, c .before .before .before .before .word-of .ensures, c .before .before .before .word-of2 .ensures)
-
-returns-16 : tie.Need-returns-16
-unfolding appliedIn given valueOf tagOf unary unaryFrom binary divides binaryFrom stopNumber
-returns-16 c = let a : 5 ≤ c .before .before .before .before .before .args .k = omega (arith, c .before .before .match .rest .0 .0 .0 .0 .0 .0 .0 .0 .0 .0 .0 .0 .1, c .before .before .match .rest .0 .0 .0 .0 .0 .0 .0 .0 .0 .0 .0 .1, c .before .before .match .rest .0 .0 .0 .0 .0 .0 .0 .0 .0 .0 .1, c .before .before .match .rest .0 .0 .0 .0 .0 .0 .0 .0 .0 .1, c .before .before .match .rest .0 .0 .0 .0 .0 .0 .0 .0 .1) in let b : 9 ≤ c .before .before .before .before .before .args .k = omega (arith, a, c .before .before .match .rest .0 .0 .0 .0 .0 .0 .0 .1, c .before .before .match .rest .0 .0 .0 .0 .0 .0 .1, c .before .before .match .rest .0 .0 .0 .0 .0 .1, c .before .before .match .rest .0 .0 .0 .0 .1) in let e : c .before .before .before .before .before .args .k ≡ 13 = omega (arith, b, c .before .before .before .before .before .pre .few, c .before .before .match .rest .0 .0 .0 .1, c .before .before .match .rest .0 .0 .1, c .before .before .match .rest .0 .1, c .before .before .match .rest .1) in rw (e, c .both9 .ensures, c .before .is-not-equal .ensures, c .before .before .before .before .word-of .ensures, c .before .before .before .word-of2 .ensures)
+returns-15 c = let a : 5 ≤ c .before .before .before .before .before .args .k = omega (arith, c .before .before .before .before .before .pre .some, c .before .before .match .rest .0 .0 .0 .0 .0 .0 .0 .0 .0 .0 .0 .1, c .before .before .match .rest .0 .0 .0 .0 .0 .0 .0 .0 .0 .0 .1, c .before .before .match .rest .0 .0 .0 .0 .0 .0 .0 .0 .0 .1, c .before .before .match .rest .0 .0 .0 .0 .0 .0 .0 .0 .1) in let b : 9 ≤ c .before .before .before .before .before .args .k = omega (arith, a, c .before .before .match .rest .0 .0 .0 .0 .0 .0 .0 .1, c .before .before .match .rest .0 .0 .0 .0 .0 .0 .1, c .before .before .match .rest .0 .0 .0 .0 .0 .1, c .before .before .match .rest .0 .0 .0 .0 .1) in let e : c .before .before .before .before .before .args .k ≡ 13 = omega (arith, b, c .before .before .before .before .before .pre .few, c .before .before .match .rest .0 .0 .0 .1, c .before .before .match .rest .0 .0 .1, c .before .before .match .rest .0 .1, c .before .before .match .rest .1) in rw (e, c .both9 .ensures, c .before .is-not-equal .ensures, c .before .before .before .before .word-of .ensures, c .before .before .before .word-of2 .ensures)
 
 pub apply-spec : {M : Type 1} → statement M
 apply-spec =
@@ -211,5 +207,4 @@ apply-spec =
     returns-12
     returns-13
     returns-14
-    returns-15
-    returns-16)
+    returns-15)
