@@ -29,9 +29,9 @@ use Rattle.rules.proofs.Depth.{eval-is}
 use Rattle.rules.proofs.Standing.{proper}
 use Rattle.layout.specs.Tables.{leaf, placeOf, flat, codeOf, operandOf, operatorOf, leftOf, rightOf, unaryNumber, binaryNumber, unaryFrom, binaryFrom}
 use Rattle.layout.specs.Places.{placeIn, heldIn, ConstantAs, Ready, valueIn}
-use Rattle.layout.specs.Answers.{answerOf}
+use Rattle.layout.specs.Answers.{answerOf, worthOf}
 use Rattle.layout.proofs.Places.{place-held, sound-ready, places-ready}
-use Rattle.layout.proofs.Answers.{unary-range, binary-range, Answer, worth, failed, answers}
+use Rattle.layout.proofs.Answers.{unary-range, binary-range, Worthy, Faulty, is-worth, is-fault}
 use Rattle.eval.specs.Packed.{wordIn, tagIn, unaryIn, binaryIn, cellIn, cellPlace, CellAsked, appliedIn, Applies}
 
 module _ {r p t u : List ℕ} (a : Ready r p t u) where
@@ -241,49 +241,29 @@ module _ {r p t u : List ℕ} (a : Ready r p t u) where
 
   -- ---- answers
 
-  record Faulty (o : Valued) : Type 0 where
-    stop : Stop
-    is : o ≡ Fault stop
+  worthy : (i : ℕ) {x : ℕ} → x ≡ answerOf (valueIn r p u i) → x < 9223372036854775808 → Worthy P x (valueIn r p u i)
+  worthy i = is-worth (a .policy .few-tags) (proper (sound-ready a) (places-ready a) i)
 
-  record Worthy (x : ℕ) (o : Valued) : Type 0 where
-    place : Place
-    is : o ≡ Value place
-    word : wordIn x ≡ valueOf place
-    tag : tagIn x ≡ tagOf place
-    good : tagOf place < P .tags
+  faulty : (i : ℕ) {x : ℕ} → x ≡ answerOf (valueIn r p u i) → 9223372036854775808 ≤ x → Faulty x (valueIn r p u i)
+  faulty i = is-fault (a .policy .few-tags) (proper (sound-ready a) (places-ready a) i)
 
-  is-fault : {x : ℕ} {o : Valued} → Answer P x o → 9223372036854775808 ≤ x → Faulty o
-  is-fault (worth s w g ok) l = absurd (omega arith)
-  is-fault (failed {h} s q) l = record { stop = h; is = refl }
-
-  is-worth : {x : ℕ} {o : Valued} → Answer P x o → x < 9223372036854775808 → Worthy x o
-  is-worth (worth {p = v} s w g ok) l = record { place = v; is = refl; word = w; tag = g; good = ok .good }
-  is-worth (failed s q) l = absurd (omega arith)
-
-  answer-of : (i : ℕ) {x : ℕ} → x ≡ answerOf (valueIn r p u i) → Answer P x (valueIn r p u i)
-  answer-of i q = answers (a .policy .few-tags) (proper (sound-ready a) (places-ready a) i) q
-
-  place-worth : (l : ℕ) → tagIn (getD u l 0) < byte p 6 → Worthy (getD u l 0) (Value (placeIn u l))
-  unfolding valueOf tagOf
-  place-worth l h = record { place = placeIn u l; is = refl; word = refl; tag = refl; good = h }
+  place-worth : (l : ℕ) → tagIn (getD u l 0) < byte p 6 → Worthy P (getD u l 0) (Value (placeIn u l))
+  place-worth l h = record { is = refl; good = h }
 
   -- the join's table has a row and a column for every tag
   few-tag : {b : ℕ} → b < byte p 6 → b < 16
   few-tag l = omega (arith, a .policy .few-tags)
 
-  tag-of : {x : ℕ} {o : Valued} → Worthy x o → tagIn x < byte p 6
-  tag-of v = rw (v .tag) (v .good)
-
   cell-in : (i : ℕ) → i < getD t 8465 0 → getD t 8464 0 + i < count R
   cell-in i l = omega (arith, a .decoded .vars-as, a .decoded .cells-as)
 
-  cell-asked : {x : ℕ} {o : Valued} → Worthy x o → CellAsked t u x
+  cell-asked : {x : ℕ} {o : Valued} → Worthy P x o → CellAsked t u x
   cell-asked {x} v =
       let few = a .recipe .counts in
       record {
         few = omega (arith, a .decoded .cells-as, few .few-cells);
         inside = λ l. omega (arith, cell-in (wordIn x) l, few .few-vars, few .few-cells);
-        tags = λ l. (few-tag (a .tags-below (cellPlace t x) (cell-in (wordIn x) l)), few-tag (tag-of v));
+        tags = λ l. (few-tag (a .tags-below (cellPlace t x) (cell-in (wordIn x) l)), few-tag (v .good));
       }
 
   -- ---- the operators on worthy answers
@@ -293,25 +273,28 @@ module _ {r p t u : List ℕ} (a : Ready r p t u) where
   given-same true h q = q refl
   given-same false h q = refl
 
-  on-cell : {x : ℕ} {o : Valued} → Worthy x o → cellIn t u x ≡ answerOf (cellOf P R held o)
+  on-cell : {x : ℕ} {o : Valued} → Worthy P x o → cellIn t u x ≡ answerOf (cellOf P R held o)
   unfolding valueOf tagOf
-  on-cell v =
+  on-cell {x} v =
       let d = a .decoded in
-      let i = R .vars + valueOf (v .place) in
-      rw (v .is, v .word, v .tag, d .vars-as, d .cells-as) (ap answerOf (given-same (ltb (valueOf (v .place)) (R .cells)) Index λ q.
-      let l : i < count R = omega (arith, ltb-true (valueOf (v .place)) (R .cells) q) in
+      let i = R .vars + wordIn x in
+      rw (v .is, d .vars-as, d .cells-as) (ap answerOf (given-same (ltb (wordIn x) (R .cells)) Index λ q.
+      let l : i < count R = omega (arith, ltb-true (wordIn x) (R .cells) q) in
       rw (place-held R u i l, d .joins-as _ _ (a .tags-below i l) (v .good))))
 
-  on-unary : (k : ℕ) {x : ℕ} {o : Valued} → Worthy x o → unaryIn k x ≡ answerOf (unaryOf (unaryFrom k) o)
-  on-unary k v = rw (v .is, v .word, v .tag)
+  on-unary : (k : ℕ) {x : ℕ} {o : Valued} → Worthy P x o → unaryIn k x ≡ answerOf (unaryOf (unaryFrom k) o)
+  unfolding valueOf tagOf
+  on-unary k v = rw (v .is)
 
-  on-binary : (k : ℕ) {x y : ℕ} {o v : Valued} → Worthy x o → Worthy y v → binaryIn t k x y ≡ answerOf (binaryOf P (binaryFrom k) o v)
-  on-binary k v w = rw (v .is, w .is, v .word, v .tag, w .word, w .tag, a .decoded .joins-as _ _ (v .good) (w .good))
+  on-binary : (k : ℕ) {x y : ℕ} {o v : Valued} → Worthy P x o → Worthy P y v → binaryIn t k x y ≡ answerOf (binaryOf P (binaryFrom k) o v)
+  unfolding valueOf tagOf
+  on-binary k v w = rw (v .is, w .is, a .decoded .joins-as _ _ (v .good) (w .good))
 
-  whole : {x : ℕ} {o : Valued} → Worthy x o → x ≡ answerOf o
-  whole v = rw (v .is) (omega (arith, v .word, v .tag))
+  whole : {x : ℕ} {o : Valued} → Worthy P x o → x ≡ answerOf o
+  unfolding valueOf tagOf
+  whole v = rw (v .is) (omega arith)
 
-  on-op : (k : ℕ) {x y : ℕ} {o v : Valued} → Worthy x o → (5 ≤ k → Worthy y v) → appliedIn t u k x y ≡ answerOf (opOf k o v)
+  on-op : (k : ℕ) {x y : ℕ} {o v : Valued} → Worthy P x o → (5 ≤ k → Worthy P y v) → appliedIn t u k x y ≡ answerOf (opOf k o v)
   unfolding appliedIn unaryFrom
   on-op zero x y = whole x
   on-op (suc zero) x y = on-cell x
@@ -320,8 +303,8 @@ module _ {r p t u : List ℕ} (a : Ready r p t u) where
   on-op (suc (suc (suc (suc zero)))) x y = on-unary 4 x
   on-op (suc (suc (suc (suc (suc k))))) x y = on-binary (suc (suc (suc (suc (suc k))))) x (y (omega arith))
 
-  asks : {k x y : ℕ} {o v : Valued} → 0 < k → k < 14 → Worthy x o → (5 ≤ k → Worthy y v) → Applies t u k x y
-  asks some few x y = record { some = some; few = few; cell = λ q. cell-asked x; tags = λ h. (few-tag (tag-of x), few-tag (tag-of (y h))) }
+  asks : {k x y : ℕ} {o v : Valued} → 0 < k → k < 14 → Worthy P x o → (5 ≤ k → Worthy P y v) → Applies t u k x y
+  asks some few x y = record { some = some; few = few; cell = λ q. cell-asked x; tags = λ h. (few-tag (x .good), few-tag (y h .good)) }
 
   -- ---- expression e
 
@@ -345,10 +328,10 @@ module _ {r p t u : List ℕ} (a : Ready r p t u) where
       pub right-place : right < 2112
       right-place = shape .right-there
 
-      left-worth : Worthy (getD u left 0) (Value (placeIn u left))
+      left-worth : Worthy P (getD u left 0) (Value (placeIn u left))
       left-worth = place-worth left (shape .left-good)
 
-      right-worth : 5 ≤ code → Worthy (getD u right 0) (Value (placeIn u right))
+      right-worth : 5 ≤ code → Worthy P (getD u right 0) (Value (placeIn u right))
       right-worth b = place-worth right (shape .right-good b)
 
       pub flat-asks : 0 < code → Applies t u code (getD u left 0) (getD u right 0)
@@ -387,16 +370,16 @@ module _ {r p t u : List ℕ} (a : Ready r p t u) where
       module _ {x : ℕ} (f : x ≡ answerOf (valueIn r p u left)) where
         pub left-fault : 9223372036854775808 ≤ x → x ≡ answerOf (valueIn r p u e)
         left-fault b =
-            let w = is-fault (answer-of _ f) b in
+            let w = faulty _ f b in
             let q = left-lost (code - 16) (omega (arith, form .some)) (w .stop) (valueIn r p u right) in
             rw (form .is, w .is, q) (rw (w .is) at f)
 
         module _ (s : x < 9223372036854775808) where
-          first : Worthy x (valueIn r p u left)
-          first = is-worth (answer-of _ f) s
+          first : Worthy P x (valueIn r p u left)
+          first = worthy _ f s
 
           module _ (b : code - 16 < 5) (y : ℕ) where
-            no-second : 5 ≤ code - 16 → Worthy y (valueIn r p u right)
+            no-second : 5 ≤ code - 16 → Worthy P y (valueIn r p u right)
             no-second c = absurd (omega arith)
 
             pub one-asks : Applies t u (code - 16) x y
@@ -408,13 +391,13 @@ module _ {r p t u : List ℕ} (a : Ready r p t u) where
           module _ (b : 5 ≤ code - 16) {y : ℕ} (g : y ≡ answerOf (valueIn r p u right)) where
             pub right-fault : 9223372036854775808 ≤ y → y ≡ answerOf (valueIn r p u e)
             right-fault c =
-                let w = is-fault (answer-of _ g) c in
-                let q = right-lost (code - 16) b (first .place) (w .stop) in
+                let w = faulty _ g c in
+                let q = right-lost (code - 16) b (worthOf x) (w .stop) in
                 rw (form .is, first .is, w .is, q) (rw (w .is) at g)
 
             module _ (c : y < 9223372036854775808) where
-              second : Worthy y (valueIn r p u right)
-              second = is-worth (answer-of _ g) c
+              second : Worthy P y (valueIn r p u right)
+              second = worthy _ g c
 
               pub two-asks : Applies t u (code - 16) x y
               two-asks = asks (omega (arith, form .some)) (omega (arith, code-few)) first (λ z. second)

@@ -1,7 +1,7 @@
 -- An answer is taken apart again, and the numbers of faults lead back; the ranges of the operators' numbers. Assumes nothing.
 use Prim.Native.Nat.{ℕ, _+_, _-_, _*_, _/_, _%_, _^_, _<_, _≤_}
 use native.Mathlib.Omega.{arith}
-use mathlib.Core.Path.{_≡_, refl}
+use mathlib.Core.Path.{_≡_, refl, sym, ap}
 use Rattle.rules.specs.declared.UnaryOp.{UnaryOp}
 use Rattle.rules.specs.declared.UnaryOp.the-variants.{Negate, Not, Absolute}
 use Rattle.rules.specs.declared.BinaryOp.{BinaryOp}
@@ -14,7 +14,7 @@ use Rattle.rules.specs.declared.Valued.the-variants.{Value, Fault}
 use Rattle.rules.specs.Policy.{Policy}
 use Rattle.rules.specs.Memory.{valueOf, tagOf}
 use Rattle.rules.specs.Ends.{stopNumber}
-use Rattle.rules.proofs.Standing.{PlaceOk, Proper, fault, value}
+use Rattle.rules.proofs.Standing.{Proper, fault, value}
 use Rattle.layout.specs.Tables.{unaryNumber, binaryNumber}
 use Rattle.layout.specs.Answers.{answerOf, worthOf, stopFrom}
 
@@ -60,20 +60,31 @@ stop-below Frames = omega arith
 
 -- ---- answers
 
--- a word x that stands for a value or a fault
-pub data Answer (P : Policy) (x : ℕ) : Valued → Type 0 where
-  worth : {p : Place} → x < 9223372036854775808 → x % 4294967296 ≡ valueOf p → x / 4294967296 ≡ tagOf p → PlaceOk P p → Answer P x (Value p)
-  failed : {h : Stop} → 9223372036854775808 ≤ x → stopFrom (x - 9223372036854775808) ≡ h → Answer P x (Fault h)
-
-pub answers : {P : Policy} → P .tags ≤ 16 → {o : Valued} → Proper P o → {x : ℕ} → x ≡ answerOf o → Answer P x o
-answers few (value {p} k) e = worth {p = p} (omega (arith, k .good, k .word)) (omega (arith, k .word)) (omega (arith, k .word)) k
-answers few (fault {h}) {x} e =
-    let d : x - 9223372036854775808 ≡ stopNumber h = omega arith in
-    failed {h = h} (omega arith) (rw d (stop-back h))
-
 -- a place is read back from its answer
 pub worth-back : (q : Place) → q .value < 2 ^ 32 → worthOf (q .value + 4294967296 * q .tag) ≡ q
 worth-back q small =
     let v : (q .value + 4294967296 * q .tag) % 4294967296 ≡ q .value = omega arith in
     let g : (q .value + 4294967296 * q .tag) / 4294967296 ≡ q .tag = omega arith in
     rw (v, g)
+
+-- the answer x stands for a value, or for a fault, whose number is its word
+pub record Worthy (P : Policy) (x : ℕ) (o : Valued) : Type 0 where
+  pub is : o ≡ Value (worthOf x)
+  pub good : x / 4294967296 < P .tags
+
+pub record Faulty (x : ℕ) (o : Valued) : Type 0 where
+  pub stop : Stop
+  pub is : o ≡ Fault stop
+  pub word : x % 4294967296 ≡ stopNumber stop
+  pub back : stopFrom (x - 9223372036854775808) ≡ stop
+
+pub is-worth : {P : Policy} → P .tags ≤ 16 → {o : Valued} → Proper P o → {x : ℕ} → x ≡ answerOf o → x < 9223372036854775808 → Worthy P x o
+unfolding valueOf tagOf
+is-worth few (value {p} k) e l = record { is = rw e (ap Value (sym (worth-back p (k .word)))); good = omega (arith, k .good, k .word) }
+is-worth few (fault {h}) e l = absurd (omega arith)
+
+pub is-fault : {P : Policy} → P .tags ≤ 16 → {o : Valued} → Proper P o → {x : ℕ} → x ≡ answerOf o → 9223372036854775808 ≤ x → Faulty x o
+is-fault few (value k) e l = absurd (omega (arith, k .good, k .word))
+is-fault few (fault {h}) {x} e l =
+    let d : x - 9223372036854775808 ≡ stopNumber h = omega arith in
+    record { stop = h; is = refl; word = omega (arith, stop-below h); back = rw d (stop-back h) }

@@ -1,7 +1,7 @@
 -- An evaluated expression as one word of 64 bits: value + 2^32 tag, or, from 2^63 on, the number of the fault. A place is held
 -- as the answer that it gives. Assumes nothing.
 use Prim.Native.Nat.{ℕ, _+_, _-_, _*_, _/_, _%_}
-use mathlib.Core.List.{List, [], _∷_}
+use mathlib.Core.List.{[], _∷_}
 use lib.ListN.{getD}
 use Rattle.rules.specs.declared.Stop.{Stop}
 use Rattle.rules.specs.declared.Stop.the-variants.{AssignTag, StoreTag, EmitTag, Index, Divisor, Room, Frames}

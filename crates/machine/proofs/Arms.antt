@@ -1,25 +1,22 @@
 -- What a statement or a repeated test asks once its expression is evaluated. Assumes nothing.
-use Prim.Native.Nat.{ℕ, _+_, _-_, _*_, _/_, _%_, _^_, _<_, _≤_}
+use Prim.Native.Nat.{ℕ, _+_, _-_, _/_, _%_, _^_, _<_}
 use native.Mathlib.Omega.{arith}
-use mathlib.Core.Path.{_≡_, refl, sym, ap, _∙_}
+use mathlib.Core.Path.{_≡_, refl, sym, _∙_}
 use mathlib.Core.Bool.{Bool, true, false}
 use mathlib.Core.List.{List}
 use lib.Dec.{eqb}
 use lib.ListN.{getD}
 use borrow.Author.Tests.{eqb-true, eqb-false}
-use Rattle.rules.specs.declared.Stop.{Stop}
 use Rattle.rules.specs.declared.Stop.the-variants.{EmitTag}
 use Rattle.rules.specs.declared.Place.{Place}
 use Rattle.rules.specs.declared.Valued.{Valued}
-use Rattle.rules.specs.declared.Valued.the-variants.{Value, Fault}
-use Rattle.rules.specs.declared.Frame.the-variants.{Next, Join, Loop}
-use Rattle.rules.specs.declared.Act.{Act}
-use Rattle.rules.specs.declared.Act.the-variants.{Passes, Pushes, Writes, Records, Stops}
-use Rattle.rules.specs.declared.Again.{Again}
-use Rattle.rules.specs.declared.Again.the-variants.{Repeats, Leaves, Fails}
+use Rattle.rules.specs.declared.Valued.the-variants.{Value}
+use Rattle.rules.specs.declared.Frame.the-variants.{Join, Loop}
+use Rattle.rules.specs.declared.Act.the-variants.{Passes, Pushes, Records, Stops}
+use Rattle.rules.specs.declared.Again.the-variants.{Repeats, Leaves}
 use Rattle.rules.specs.Bytes.{byte}
 use Rattle.rules.specs.Policy.{Policy, policyOf, under}
-use Rattle.rules.specs.Recipe.{Recipe, recipeOf}
+use Rattle.rules.specs.Recipe.{Recipe}
 use Rattle.rules.specs.Memory.{Memory, valueOf, tagOf}
 use Rattle.rules.specs.Steps.{allow, assigns, emits, chooses, loops, tests}
 use Rattle.layout.specs.Tables.{joinIn}

@@ -1,9 +1,8 @@
 -- Accepted tables, decoded, are ready for the run; and what the run leaves, written back, is what document 01 says. Assumes nothing.
 use Prim.Native.Nat.{ℕ, _<_}
-use mathlib.Core.Path.{_≡_, refl, sym, ap, _∙_}
+use mathlib.Core.Path.{_≡_, sym, ap, _∙_}
 use mathlib.Core.List.{List}
 use lib.ListN.{length}
-use Rattle.rules.specs.declared.Expr.{Expr}
 use Rattle.rules.specs.declared.Outcome.{Outcome}
 use Rattle.rules.specs.Bytes.{Bytes}
 use Rattle.rules.specs.Policy.{policyOf}

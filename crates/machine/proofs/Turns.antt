@@ -1,5 +1,5 @@
 -- One turn of the loop is one step of the run. Assumes nothing.
-use Prim.Native.Nat.{ℕ, zero, suc, _+_, _-_, _*_, _/_, _%_, _^_, _<_, _≤_}
+use Prim.Native.Nat.{ℕ, zero, suc, _+_, _-_, _*_, _/_, _%_, _<_, _≤_}
 use native.Mathlib.Nat.{not-suc-le-zero}
 use native.Mathlib.Numerals.{add-one, sub-one}
 use native.Mathlib.Omega.{arith}
@@ -10,7 +10,6 @@ use lib.ListN.{length, getD, set, length-set}
 use borrow.Author.Tests.{lt-ltb, le-ltb, le-leb, lt-leb}
 use Rattle.rules.specs.declared.Stop.{Stop}
 use Rattle.rules.specs.declared.Stop.the-variants.{EmitTag, Room, Frames}
-use Rattle.rules.specs.declared.Place.{Place}
 use Rattle.rules.specs.declared.Frame.{Frame}
 use Rattle.rules.specs.declared.Frame.the-variants.{Next, Join, Loop}
 use Rattle.rules.specs.declared.Waiting.{Waiting}
@@ -33,7 +32,7 @@ use Rattle.layout.specs.Tables.{StmtAs}
 use Rattle.rules.specs.Steps.{State, state, Turn, Goes, Halts, Finished, eval, begins, Loops, loop-of, no-loop, tests, repeats, loopIn, check, performs, takes, step}
 use Rattle.rules.specs.Run.{Result, ends, follow, run, start}
 use Rattle.rules.specs.Judged.{outcomeOf, writtenBack}
-use Rattle.rules.proofs.Standing.{Standing, FrameOk, PlaceOk, ActOk, pushes, writes, keeps-step, act-ok, standing-start}
+use Rattle.rules.proofs.Standing.{Standing, FrameOk, ActOk, writes, keeps-step, act-ok, standing-start}
 use Rattle.rules.proofs.Reached.{standing-after}
 use Rattle.memory.specs.Layout.{recorded, Holds}
 use Rattle.memory.proofs.Records.{none-held, length-held, more-held}

@@ -1,7 +1,7 @@
 // The run of accepted tables, and the library's entry, which checks everything and runs.
 ghost use mathlib.Core.Path.{_≡_};
 ghost use mathlib.Core.List.{List};
-ghost use Prim.Native.Nat.{ℕ, _+_, _*_, _/_, _%_, _<_, _≤_};
+ghost use Prim.Native.Nat.{ℕ, _+_, _*_, _/_, _%_, _<_};
 ghost use lib.ListN.{length, getD};
 ghost use Rattle.rules.specs.Recipe.{recipeOf};
 ghost use Rattle.rules.specs.Judged.{outcomeOf, writtenBack, ran, checks, judged};

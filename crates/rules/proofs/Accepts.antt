@@ -1,11 +1,11 @@
 -- Acceptance, both ways: the checks pass exactly where the recipe is well-formed, the policy lawful, the ports there and the
 -- memory well-tagged. Assumes nothing.
-use Prim.Native.Nat.{ℕ, _+_, _*_, _<_, _≤_}
+use Prim.Native.Nat.{ℕ, _<_, _≤_}
 use native.Mathlib.Omega.{arith}
 use mathlib.Core.Path.{_≡_, refl}
-use mathlib.Core.Bool.{Bool, true, false}
+use mathlib.Core.Bool.{true}
 use mathlib.Core.List.{List}
-use lib.Dec.{leb, ltb, eqb}
+use lib.Dec.{ltb, eqb}
 use lib.ListN.{length}
 use borrow.Author.Tests.{leb-true, ltb-true, eqb-true, le-leb, lt-ltb, eq-eqb}
 use Rattle.rules.specs.declared.Expr.{Expr}
@@ -13,13 +13,13 @@ use Rattle.rules.specs.declared.Expr.the-variants.{Constant, Variable, C
 use Rattle.rules.specs.declared.Stmt.{Stmt}
 use Rattle.rules.specs.declared.Stmt.the-variants.{Skip, Assign, Store, Then, If, While, Emit, BadStmt}
 use Rattle.rules.specs.declared.Checked.the-variants.{Passed}
-use Rattle.rules.specs.Bytes.{byte, half}
-use Rattle.rules.specs.Checks.{_and_, require, _andThen_, upTo, every}
-use Rattle.rules.specs.Recipe.{Recipe, recipeOf, markOk, zerosOk, countsOk, exprOk, stmtOk, spread, checkExpr, checkStmt, checkHeader, checkRecipe, portOk, checkPorts}
+use Rattle.rules.specs.Bytes.{byte}
+use Rattle.rules.specs.Checks.{_and_}
+use Rattle.rules.specs.Recipe.{Recipe, recipeOf, markOk, zerosOk, countsOk, exprOk, stmtOk, checkExpr, checkStmt, checkHeader, checkRecipe, portOk, checkPorts}
 use Rattle.rules.specs.Policy.{Policy, policyOf, policyHeaderOk, lawAt, lawsOk, checkEntry, checkPolicy}
-use Rattle.rules.specs.Memory.{tagOf, placeAt, count, placesOf, checkTag, checkMemory}
+use Rattle.rules.specs.Memory.{count, placesOf, checkTag, checkMemory}
 use Rattle.rules.specs.Judged.{checks}
-use Rattle.rules.specs.Accepted.{ExprOk, StmtOk, Counts, Ordered, WellFormed, PortOk, PortsOk, Laws, LawfulPolicy, WellTagged, Accepted}
+use Rattle.rules.specs.Accepted.{ExprOk, StmtOk, Counts, WellFormed, PortOk, PortsOk, Laws, LawfulPolicy, WellTagged, Accepted}
 use Rattle.rules.proofs.Tests.{and-left, and-right, and-both}
 use Rattle.rules.proofs.Checks.{required, passes, first, second, both-pass, up-each, up-all, each, all}
 

@@ -14,7 +14,7 @@ use Rattle.rules.specs.declared.Again.{Again}
 use Rattle.rules.specs.declared.Again.the-variants.{Repeats, Leaves, Fails}
 use Rattle.rules.specs.Policy.{Policy, under}
 use Rattle.rules.specs.Recipe.{Recipe}
-use Rattle.rules.specs.Memory.{Memory, _#_, valueOf, tagOf, placeAt}
+use Rattle.rules.specs.Memory.{Memory, _#_, tagOf, placeAt}
 use Rattle.rules.specs.Steps.{allow, assigns, stores, emits, chooses, loops, begins, Loops, loop-of, no-loop, tests, repeats}
 use Rattle.rules.proofs.Tests.{picked, both-picked}
 use Rattle.rules.proofs.Tags.{Lawful, Viewer, Good, High, high-left, high-right, high-under, under-is}

@@ -3,20 +3,19 @@ use Prim.Native.Nat.{ℕ, zero, suc, _+_, _*_, _/_, _%_, _^_, _<_, _≤_}
 use native.Mathlib.Nat.{mul-le-mul-right}
 use native.Mathlib.Decide.{decLt}
 use native.Mathlib.Omega.{arith}
-use mathlib.Core.Path.{_≡_, refl, ap, _∙_}
+use mathlib.Core.Path.{_≡_, refl, ap}
 use mathlib.Core.Bool.{Bool, true, false}
 use mathlib.Core.List.{List, [], _∷_, _++_}
-use lib.ListN.{length, getD, drop, List·getD-eq-default}
+use lib.ListN.{length, drop, List·getD-eq-default}
 use lib.Seq.{getD-drop}
 use Rattle.rules.specs.declared.Expr.{Expr}
-use Rattle.rules.specs.declared.Place.{Place}
-use Rattle.rules.specs.Bytes.{Bytes, byte, half, whole, wholeBytes}
+use Rattle.rules.specs.Bytes.{Bytes, byte, whole, wholeBytes}
 use Rattle.rules.specs.Policy.{Policy, policyOf}
 use Rattle.rules.specs.Recipe.{Recipe, recipeOf, exprIf, unaryExpr, binaryExpr, exprOf, expr}
 use Rattle.rules.specs.Memory.{Memory, _#_, valueOf, tagOf, placeAt, places, count, placesOf, placeBytes, Record, out, recordBytes, recordsOf}
 use Rattle.rules.specs.Accepted.{WellFormed, LawfulPolicy, WellTagged, Accepted}
 use Rattle.rules.proofs.Tags.{Lawful, Good}
-use Rattle.rules.proofs.Standing.{WordIn, Sound, PlaceOk, PlacesOk, WordsOk}
+use Rattle.rules.proofs.Standing.{WordIn, Sound, PlacesOk, WordsOk}
 
 -- ---- words
 

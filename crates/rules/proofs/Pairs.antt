@@ -1,7 +1,7 @@
 -- Two runs that a viewer cannot tell apart: both in the same place, or each on a hidden branch or back from it.
 -- Assumes nothing.
 use Prim.Native.Nat.{ℕ}
-use mathlib.Core.Path.{_≡_, refl}
+use mathlib.Core.Path.{_≡_}
 use mathlib.Core.Bool.{Bool, true, false}
 use mathlib.Core.List.{List, [], _∷_}
 use Rattle.rules.specs.declared.Stop.{Stop}

@@ -1,7 +1,7 @@
 -- One step of two runs in the same place, and one step of a run on a hidden branch. Assumes nothing.
 use Prim.Native.Nat.{ℕ}
 use mathlib.Core.Path.{_≡_, sym, _∙_}
-use mathlib.Core.List.{List, [], _∷_}
+use mathlib.Core.List.{List, _∷_}
 use Rattle.rules.specs.declared.Frame.{Frame}
 use Rattle.rules.specs.declared.Frame.the-variants.{Next, Join, Loop}
 use Rattle.rules.specs.declared.Waiting.{Waiting}
@@ -15,7 +15,7 @@ use Rattle.rules.specs.Steps.{state, performs, takes, repeats, loopIn, s
 use Rattle.rules.proofs.Tags.{Viewer, Good, High}
 use Rattle.rules.proofs.Agree.{Alike, alike-sym, alike-set, alike-write}
 use Rattle.rules.proofs.Records.{seen-append, seen-hidden}
-use Rattle.rules.proofs.Pairs.{shown, FrameGood, Restores, by-join, by-loop, Stacks, no-frame, same-frame, Over, last, over, Side, inside, back, together, split}
+use Rattle.rules.proofs.Pairs.{shown, by-join, by-loop, Stacks, no-frame, same-frame, Over, last, over, Side, inside, back, together}
 use Rattle.rules.proofs.Pairs.{Both, stop-left, stop-right, go, finish, Beside, halts, moves, Turned, ended, turned, both-check, beside-check, turned-check, both-turned, beside-turned}
 use Rattle.rules.proofs.Acts as acts
 use Rattle.rules.proofs.Acts.{Acts, Quiet, Hushed, Agains, Branches, both-begins, both-repeats, quiet-begins, hushed-repeats}

@@ -1,9 +1,8 @@
 -- Demand 2 rejects five kinds of machine, each by runs that such a machine gets wrong. Assumes nothing.
 use Prim.Native.Nat.{ℕ}
 use native.Mathlib.Omega.{arith}
-use mathlib.Core.Path.{_≡_, refl, sym, ap, _∙_}
-use mathlib.Core.List.{List, [], _∷_}
-use Rattle.rules.specs.declared.End.{End}
+use mathlib.Core.Path.{_≡_, sym, ap, _∙_}
+use mathlib.Core.List.{[]}
 use Rattle.rules.specs.declared.End.the-variants.{Done, Budget, Refused}
 use Rattle.rules.specs.Judged.{Judged, judged}
 use Rattle.rules.specs.Machines.{Machine, Meets, RefusesAll, DoneWithNothing, LeavesMemory, InventsTheRest, MakesUpSteps}

@@ -15,11 +15,11 @@ use Rattle.rules.specs.declared.End.the-variants.{Done, Budget, Stopped}
 use Rattle.rules.specs.Policy.{Policy}
 use Rattle.rules.specs.Recipe.{Recipe}
 use Rattle.rules.specs.Memory.{Memory, placeAt, tagOf, count, Record}
-use Rattle.rules.specs.Steps.{eval, State, state, memoryIn, recordsIn, Turn}
+use Rattle.rules.specs.Steps.{State, state, memoryIn, recordsIn, Turn}
 use Rattle.rules.specs.Run.{Result, result, follow, run, start}
 use Rattle.rules.specs.Views.{Begins, Hidden, Agreeing}
 use Rattle.rules.proofs.Tags.{Lawful, Viewer, Good}
-use Rattle.rules.proofs.Agree.{Agree, apart, same, Alike, nil, cons, alike-sym, alike-at, Fine, fine-eval}
+use Rattle.rules.proofs.Agree.{Agree, apart, same, Alike, nil, cons, alike-sym, alike-at}
 use Rattle.rules.proofs.Records.{seen-append}
 use Rattle.rules.proofs.Pairs.{shown, no-frame, Side, inside, back, Pair, together, split, Both, stop-left, stop-right, go, finish, Beside, halts, moves}
 use Rattle.rules.proofs.Performs.{both-step, alone-step}
@@ -168,9 +168,3 @@ module _ (P : Policy) (lawful : Lawful P) (A : ℕ) (below : A < P .tags) (R : R
 
   pub agreeing : (m k : Memory) → Alike viewer m k → Agreeing P A R m k
   agreeing m k s i l = told (alike-at s i)
-
--- evaluation over an accepted memory gives a fault, or a value with one of the policy's tags
-pub fine-value : (P : Policy) → Lawful P → (R : Recipe) (m : Memory) → Start P R m → (e : ℕ) → Fine P (eval P R m e)
-fine-value P lawful R m s e =
-    let W = viewer P lawful 0 (lawful .some-tag) R in
-    fine-eval R (alike {W = W} m m refl (s .tags-below) (s .tags-below) (λ i l. inr refl)) e

@@ -5,7 +5,7 @@ use native.Mathlib.Omega.{arith}
 use mathlib.Core.Path.{_≡_, refl, ap, _∙_}
 use mathlib.Core.Bool.{Bool, true, false}
 use mathlib.Core.List.{List, [], _∷_, _++_}
-use lib.Dec.{ltb, eqb}
+use lib.Dec.{eqb}
 use lib.ListN.{length, length-append, length-set}
 use lib.Seq.{getD-set-same, getD-set-other}
 use borrow.Author.Tests.{ltb-true, leb-true, eqb-true, eqb-false}
@@ -33,10 +33,10 @@ use Rattle.rules.specs.declared.Again.the-variants.{Repeats, Leaves, Fai
 use Rattle.rules.specs.declared.End.{End}
 use Rattle.rules.specs.declared.End.the-variants.{Done, Budget, Stopped, Refused}
 use Rattle.rules.specs.Operators.{unary, binary}
-use Rattle.rules.specs.Policy.{Policy, under}
+use Rattle.rules.specs.Policy.{Policy}
 use Rattle.rules.specs.Recipe.{Recipe}
 use Rattle.rules.specs.Memory.{Memory, _#_, valueOf, tagOf, placeAt, write, count, Record, out}
-use Rattle.rules.specs.Steps.{given, unaryOf, binaryOf, cellOf, valueBy, valueWithin, eval, test, allow, assigns, stores, emits, chooses, loops, begins, Loops, loop-of, no-loop, loopIn, tests, repeats, State, state, Turn, Goes, Halts, Finished, check, performs, takes, step}
+use Rattle.rules.specs.Steps.{given, unaryOf, binaryOf, cellOf, valueBy, valueWithin, eval, test, allow, assigns, stores, emits, chooses, loops, begins, loop-of, loopIn, tests, repeats, State, state, Turn, Goes, Halts, Finished, check, performs, takes, step}
 use Rattle.rules.specs.Run.{Result, result, follow, run, start}
 use Rattle.rules.specs.Accepted.{StmtOk, Ordered}
 use Rattle.rules.proofs.Tests.{picked}

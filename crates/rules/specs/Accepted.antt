@@ -11,7 +11,7 @@ use Rattle.rules.specs.declared.Stmt.the-variants.{Skip, Assign, Store, 
 use Rattle.rules.specs.Bytes.{byte, half}
 use Rattle.rules.specs.Policy.{Policy, policyOf}
 use Rattle.rules.specs.Recipe.{Recipe, recipeOf, spread}
-use Rattle.rules.specs.Memory.{Memory, tagOf, placeAt, count, placesOf}
+use Rattle.rules.specs.Memory.{tagOf, placeAt, count, placesOf}
 
 -- ---- the recipe
 

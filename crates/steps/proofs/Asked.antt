@@ -1,59 +1,29 @@
 -- How what is done follows from answers, tags and tests on the decoded tables. Assumes nothing.
 use Prim.Native.Nat.{ℕ, zero, suc, _+_, _-_, _/_, _%_, _^_, _<_, _≤_}
 use native.Mathlib.Omega.{arith}
-use mathlib.Core.Path.{_≡_, refl, sym, ap, _∙_}
+use mathlib.Core.Path.{_≡_, refl, sym, _∙_}
 use mathlib.Core.Bool.{true, false}
 use mathlib.Core.List.{List}
 use lib.Dec.{ltb}
 use lib.ListN.{getD}
 use borrow.Author.Tests.{le-ltb, lt-ltb}
-use Rattle.rules.specs.declared.Stop.{Stop}
 use Rattle.rules.specs.declared.Place.{Place}
-use Rattle.rules.specs.declared.Valued.{Valued}
 use Rattle.rules.specs.declared.Valued.the-variants.{Value, Fault}
 use Rattle.rules.specs.Bytes.{byte}
-use Rattle.rules.specs.Policy.{Policy, policyOf, under}
+use Rattle.rules.specs.Policy.{policyOf, under}
 use Rattle.rules.specs.Recipe.{recipeOf}
-use Rattle.rules.specs.Memory.{_#_, valueOf, tagOf, placeAt, count}
+use Rattle.rules.specs.Memory.{valueOf, tagOf, placeAt, count}
 use Rattle.rules.specs.Steps.{test}
-use Rattle.rules.specs.Ends.{stopNumber}
-use Rattle.rules.proofs.Standing.{Proper, fault, value, proper}
+use Rattle.rules.proofs.Standing.{Proper, proper}
 use Rattle.rules.proofs.Tags.{is-under, under-is}
 use Rattle.rules.proofs.Tests.{fails}
 use Rattle.layout.specs.Tables.{joinIn}
 use Rattle.layout.specs.Places.{Ready, heldIn, valueIn, Answered}
 use Rattle.layout.specs.Answers.{answerOf, stopFrom, worthOf}
 use Rattle.layout.proofs.Places.{sound-ready, places-ready, place-held}
-use Rattle.layout.proofs.Answers.{Answer, answers, worth, failed, stop-below}
+use Rattle.layout.proofs.Answers.{Worthy, Faulty, is-worth, is-fault}
 
 -- ---- answers
-
-place-is : (p : Place) {v g : ℕ} → v ≡ valueOf p → g ≡ tagOf p → p ≡ v # g
-unfolding valueOf tagOf
-place-is p e f = rw (e, f)
-
-module _ {P : Policy} {x : ℕ} where
-  found : {o : Valued} → Answer P x o → x < 9223372036854775808 → o ≡ Value (worthOf x)
-  found (worth {p = p} l v g k) h = ap Value (place-is p v g)
-  found (failed l e) h = absurd (omega arith)
-
-  faulted : {o : Valued} → Answer P x o → 9223372036854775808 ≤ x → o ≡ Fault (stopFrom (x - 9223372036854775808))
-  faulted (worth l v g k) h = absurd (omega arith)
-  faulted (failed l e) h = rw e
-
-  tagged : {o : Valued} → Answer P x o → x < 9223372036854775808 → x / 4294967296 < P .tags
-  tagged (worth l v g k) h = rw g (k .good)
-  tagged (failed l e) h = absurd (omega arith)
-
--- the answer x stands for a fault, whose number is its word
-pub record Lost (x : ℕ) (o : Valued) : Type 0 where
-  pub stop : Stop
-  pub is : o ≡ Fault stop
-  pub number : x % 4294967296 ≡ stopNumber stop
-
-lost : {P : Policy} → P .tags ≤ 16 → {o : Valued} → Proper P o → {x : ℕ} → x ≡ answerOf o → 9223372036854775808 ≤ x → Lost x o
-lost few (value k) e l = absurd (omega (arith, k .good, k .word))
-lost few (fault {h}) e l = record { stop = h; is = refl; number = omega (arith, stop-below h) }
 
 -- a place is read back from its answer
 module _ (q : Place) {v : ℕ} (l : valueOf q < 2 ^ 32) (e : v ≡ answerOf (Value q)) where
@@ -68,20 +38,20 @@ module _ {r p t u : List ℕ} (a : Ready r p t u) where
     valued : Proper (policyOf p) (valueIn r p u e)
     valued = proper (sound-ready a) (places-ready a) e
 
-    answer : Answer (policyOf p) x (valueIn r p u e)
-    answer = answers (a .policy .few-tags) valued (q r p a h)
+    found : x < 9223372036854775808 → Worthy (policyOf p) x (valueIn r p u e)
+    found = is-worth (a .policy .few-tags) valued (q r p a h)
 
     pub value-found : x < 9223372036854775808 → valueIn r p u e ≡ Value (worthOf x)
-    value-found = found answer
-
-    pub value-lost : 9223372036854775808 ≤ x → Lost x (valueIn r p u e)
-    value-lost = lost (a .policy .few-tags) valued (q r p a h)
-
-    pub value-fault : 9223372036854775808 ≤ x → valueIn r p u e ≡ Fault (stopFrom (x - 9223372036854775808))
-    value-fault = faulted answer
+    value-found l = found l .is
 
     pub tag-found : x < 9223372036854775808 → x / 4294967296 < byte p 6
-    tag-found = tagged answer
+    tag-found l = found l .good
+
+    pub value-lost : 9223372036854775808 ≤ x → Faulty x (valueIn r p u e)
+    value-lost = is-fault (a .policy .few-tags) valued (q r p a h)
+
+    pub value-fault : 9223372036854775808 ≤ x → valueIn r p u e ≡ Fault (stopFrom (x - 9223372036854775808))
+    value-fault l = rw (value-lost l .back) (value-lost l .is)
 
   -- ---- places
 

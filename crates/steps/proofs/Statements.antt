@@ -1,14 +1,13 @@
 -- A decoded statement is read back from its fields. Assumes nothing.
 use Prim.Native.Nat.{ℕ, _+_, _*_, _<_, _≤_}
 use native.Mathlib.Omega.{arith}
-use mathlib.Core.Path.{_≡_, refl, sym, _∙_}
+use mathlib.Core.Path.{_≡_, refl, sym}
 use mathlib.Core.List.{List, [], _∷_}
 use lib.ListN.{getD}
 use Rattle.rules.specs.declared.Stmt.{Stmt}
 use Rattle.rules.specs.declared.Stmt.the-variants.{Skip, Assign, Store, Then, If, While, Emit, BadStmt}
 use Rattle.rules.specs.Bytes.{byte}
 use Rattle.rules.specs.Recipe.{recipeOf}
-use Rattle.rules.specs.Steps.{loopIn, no-loop}
 use Rattle.rules.specs.Accepted.{StmtOk, PortOk}
 use Rattle.layout.specs.Tables.{kindOf, firstOf, secondOf, thirdOf, StmtAs}
 use Rattle.layout.specs.Places.{Ready}
@@ -52,25 +51,12 @@ small lv le ls ln (While e a) h k = record { first = omega arith; second = omega
 small lv le ls ln (Emit port e) h k = record { first = omega arith; second = omega arith; third = omega arith }
 small lv le ls ln BadStmt h k = absurd h
 
-pub loopless : (x : Stmt) → (kindOf x ≡ 5 → ⊥) → loopIn x ≡ no-loop
-loopless Skip h = refl
-loopless (Assign x e) h = refl
-loopless (Store i e) h = refl
-loopless (Then a c) h = refl
-loopless (If e a c) h = refl
-loopless (While e a) h = absurd (h refl)
-loopless (Emit port e) h = refl
-loopless BadStmt h = refl
-
 module _ {r p t u : List ℕ} (ready : Ready r p t u) {s : ℕ} (l : s < recipeOf r .stmts) where
   pub decoded-as : StmtAs t s (recipeOf r .stmtAt s)
   decoded-as = ready .decoded .stmts-as s l
 
   abbrev pub field : ℕ → ℕ
   field i = getD t (4096 + 4 * s + i) 0
-
-  pub not-loop : (getD t (4096 + 4 * s) 0 ≡ 5 → ⊥) → loopIn (recipeOf r .stmtAt s) ≡ no-loop
-  not-loop n = loopless (recipeOf r .stmtAt s) (λ e. n (decoded-as .kind ∙ e))
 
   pub fields : Small (recipeOf r .stmtAt s)
   fields =

@@ -1,7 +1,7 @@
 -- Demand 3 of the code: what two calls of the C host's entry return and leave, by the entry's promise. Assumes nothing.
 use Prim.Native.Nat.{ℕ, zero, suc, _^_, _<_, _≤_}
 use native.Mathlib.Omega.{arith}
-use mathlib.Core.Path.{_≡_, refl, sym, ap, _∙_}
+use mathlib.Core.Path.{_≡_, refl}
 use mathlib.Core.List.{List, _++_}
 use lib.ListN.{length, drop}
 use borrow.Author.Tests.{le-leb}
@@ -15,7 +15,7 @@ use Rattle.rules.specs.Policy.{policyOf}
 use Rattle.rules.specs.Recipe.{recipeOf}
 use Rattle.rules.specs.Memory.{placesOf}
 use Rattle.rules.specs.Ends.{stopNumber, endNumber}
-use Rattle.rules.specs.Judged.{Judged, judged, hostBudget, reportBytes, reported, withReport, hosted}
+use Rattle.rules.specs.Judged.{judged, hostBudget, reportBytes, reported, withReport, hosted}
 use Rattle.rules.specs.Accepted.{Accepted}
 use Rattle.rules.specs.Views.{Agreeing, Secret}
 use Rattle.rules.proofs.Bytes.{word-back}

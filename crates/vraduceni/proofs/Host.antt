@@ -1,6 +1,5 @@
 -- The C host's entry by its two cases: a report that is too short, and the machine's answer reported. Assumes nothing.
 use Prim.Native.Nat.{ℕ, zero, suc, _<_, _≤_}
-use native.Mathlib.Nat.{not-suc-le-zero}
 use native.Mathlib.Omega.{arith}
 use mathlib.Core.Path.{_≡_, refl, ap, _∙_}
 use mathlib.Core.Logic.{⊎-elim}
@@ -11,7 +10,7 @@ use Rattle.rules.specs.declared.Outcome.{Outcome}
 use Rattle.rules.specs.declared.End.{End}
 use Rattle.rules.specs.Bytes.{Bytes}
 use Rattle.rules.specs.Ends.{refusalNumber, endNumber, endPlace}
-use Rattle.rules.specs.Judged.{Judged, judged, hostBudget, reportBytes, reported, withReport, hosted}
+use Rattle.rules.specs.Judged.{judged, hostBudget, reportBytes, reported, withReport, hosted}
 use Rattle.rules.proofs.Numbers.{Given, judged-given}
 use Rattle.machine.specs.Turns.{LeftAs}
 use Rattle.vraduceni.specs.Hosts.{Finds}

@@ -1,7 +1,6 @@
 -- The operands are leaves, read where they stand. Assumes nothing.
 use native.Mathlib.Omega.{arith}
 use Rattle.eval.proofs.Values.{left-place, right-place, flat-asks, flat-value}
-use borrow.Author.Needs.{needs}
 use Rattle.eval.proofs.flat.Statement.{statement}
 use Rattle.eval.proofs.flat.Tie as tie
 

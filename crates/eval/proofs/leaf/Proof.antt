@@ -1,7 +1,6 @@
 -- A leaf is read where it stands. Assumes nothing.
 use native.Mathlib.Omega.{arith}
 use Rattle.eval.proofs.Values.{leaf-place, leaf-value}
-use borrow.Author.Needs.{needs}
 use Rattle.eval.proofs.leaf.Statement.{statement}
 use Rattle.eval.proofs.leaf.Tie as tie
 

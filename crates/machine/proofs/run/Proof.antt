@@ -3,17 +3,17 @@ use borrow.Author.Needs.{needs}
 use borrow.Author.Tests.{not-true, not-false}
 use native.Mathlib.Omega.{arith}
 use native.Mathlib.Nat.{pos-of-ne-zero}
-use mathlib.Core.Path.{_≡_, refl, sym, _∙_}
+use mathlib.Core.Path.{_≡_, refl}
 use mathlib.Core.List.{List}
 use Prim.Native.Nat.{ℕ, _+_, _-_}
 use Rattle.rules.specs.Policy.{policyOf}
 use Rattle.rules.specs.Recipe.{recipeOf}
-use Rattle.layout.specs.Places.{heldIn, Ready}
+use Rattle.layout.specs.Places.{Ready}
 use Rattle.layout.specs.Answers.{worthOf}
-use Rattle.steps.proofs.Asked.{value-found, value-fault, tag-found, join-is, join-good, clearance-is, clearance-good, lies-under, lies-off}
+use Rattle.steps.proofs.Asked.{value-found, value-fault, tag-found, join-is}
 use Rattle.steps.proofs.Statements.{first-fits, second-fits, third-fits}
 use Rattle.machine.proofs.Frames.{kind-low}
-use Rattle.machine.proofs.Turns.{Stands, starts, depth-below, branch-low, held-now, branch-now, done-spent, spent, passes-on, stops-at, fails-with, pushes-on, full, records-on, no-room, wrote-on, refused, there, asks-now, begun, act-fits, names, port-names, next-on, next-some, join-on, join-some, next-there, done-late, lower, last-kind, some, loop-there, loop-names, repeats-on, leaves-on, fails-at}
+use Rattle.machine.proofs.Turns.{Stands, starts, depth-below, branch-low, held-now, branch-now, done-spent, spent, passes-on, fails-with, pushes-on, full, records-on, no-room, wrote-on, refused, there, asks-now, begun, act-fits, names, port-names, next-on, next-some, join-on, join-some, next-there, done-late, lower, last-kind, some, loop-there, loop-names, repeats-on, leaves-on, fails-at}
 use Rattle.machine.proofs.Arms.{worth-tag, worth-word, worth-answer, did-as, chooses-no, chooses-yes, loops-no, loops-yes, tests-no, tests-yes, emits-no, emits-yes, emit-given, emit-on, emit-off}
 use Rattle.machine.proofs.run.Statement.{statement}
 use Rattle.machine.proofs.run.Tie as tie

@@ -1,6 +1,5 @@
 -- Accepted tables are decoded, run and written back. Assumes nothing.
 use native.Mathlib.Omega.{arith}
-use mathlib.Core.Path.{refl}
 use Rattle.machine.proofs.Loaded.{loaded, left-back}
 use borrow.Author.Needs.{needs}
 use Rattle.machine.proofs.run_accepted.Statement.{statement}

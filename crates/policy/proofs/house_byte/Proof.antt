@@ -1,5 +1,5 @@
 -- `policy::house_byte` meets its contract: antt compares the constants with the definitions' lists, all 256 joins at once. Assumes nothing.
-use mathlib.Core.Path.{_≡_, sym}
+use mathlib.Core.Path.{sym}
 use borrow.Author.Needs.{needs}
 use Rattle.rules.specs.Policy.{houseHeader, houseJoins}
 use Rattle.policy.proofs.House.{in-header, in-joins, in-clearances}

@@ -17,7 +17,7 @@ returns c r p a b i e =
     let if1 = c .before .if1 in
     let word-of = c .word-of in
     let lost = value-lost a i (value .ensures) (if1 .taken) in
-    rw (lost .is) (word-of .ensures ∙ lost .number, refl)
+    rw (lost .is) (word-of .ensures ∙ lost .word, refl)
 
 value-requires-2 : tie.Need-value-requires-2
 value-requires-2 c κs = search needs
@@ -33,7 +33,7 @@ returns-2 c r p a b i e =
     let if1 = c .before .before .before .before .if1 in
     let word-of2 = c .word-of2 in
     let lost = value-lost a e (value2 .ensures) (if2 .taken) in
-    rw (value-found a i (value .ensures) (if1 .left), lost .is) (word-of2 .ensures ∙ lost .number, refl)
+    rw (value-found a i (value .ensures) (if1 .left), lost .is) (word-of2 .ensures ∙ lost .word, refl)
 
 store-at-requires : tie.Need-store-at-requires
 store-at-requires c κs =
