@@ -43,7 +43,11 @@ returns c =
     let before = c .before .before .before .decode-clearances-arg .given in
     let size : length (c .before .before .decode-clearances .last .1 .0) ≡ 8466 = omega (arith, kept, before) in
     rw (c .before .half-at .ensures .0, c .half-at2 .ensures .0)
-    (decoded (c .before .before .before .before .before .before .before .before .before .before .before .before .pre .0) (c .before .before .before .before .before .before .before .before .before .before .before .before .pre .1) (c .before .before .before .before .before .before .before .before .decode-exprs .ensures) (c .before .before .before .before .before .before .decode-stmts .ensures) (c .before .before .before .before .decode-joins .ensures) (c .before .before .decode-clearances .ensures) size)
+    (decoded (c .before .before .before .before .before .before .before .before .before .before .before .before .pre .0)
+    (c .before .before .before .before .before .before .before .before .before .before .before .before .pre .1)
+    (c .before .before .before .before .before .before .before .before .decode-exprs .ensures)
+    (c .before .before .before .before .before .before .decode-stmts .ensures) (c .before .before .before .before .decode-joins .ensures)
+    (c .before .before .decode-clearances .ensures) size)
 
 pub decode-spec : {M : Type 1} → statement M
 decode-spec =

@@ -36,7 +36,11 @@ mul-t : tie.Need-mul-t Inv-loop μ-loop
 mul-t c = search needs
 
 slice-write-t : tie.Need-slice-write-t Inv-loop μ-loop
-slice-write-t c = omega (arith, c .before .before .before .before .before .before .before .pre .1, c .before .before .before .before .before .before .before .pre .0 .few-ports, c .before .before .before .loop .inv .2 .long, c .wide .ensures .0)
+slice-write-t c =
+    let pre = c .before .before .before .before .before .before .before .pre in
+    let loop = c .before .before .before .loop in
+    let wide = c .wide in
+    omega (arith, pre .1, pre .0 .few-ports, loop .inv .2 .long, wide .ensures .0)
 
 add-port : tie.Need-add-port Inv-loop μ-loop
 add-port c = search needs

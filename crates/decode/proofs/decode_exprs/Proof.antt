@@ -23,13 +23,19 @@ loop-holds : tie.Need-loop-holds Inv-loop μ-loop
 loop-holds c = (search needs, refl, below-none _)
 
 expr-fields-requires : tie.Need-expr-fields-requires Inv-loop μ-loop
-expr-fields-requires c κs = (c .before .before .before .before .before .before .pre .0, omega (arith), omega (arith, c .before .before .before .before .before .before .pre .1, c .before .before .loop .inv .1), c .before .before .loop .inv .2)
+expr-fields-requires c κs =
+    let pre = c .before .before .before .before .before .before .pre in
+    let loop = c .before .before .loop in
+    (pre .0, omega (arith), omega (arith, pre .1, loop .inv .1), loop .inv .2)
 
 mul-put-fields : tie.Need-mul-put-fields Inv-loop μ-loop
 mul-put-fields c = omega (arith, c .before .before .before .before .before .before .before .before .pre .0 .counts .few-exprs)
 
 put-fields-requires : tie.Need-put-fields-requires Inv-loop μ-loop
-put-fields-requires c κs = omega (arith, c .before .before .before .before .before .before .before .before .pre .0 .counts .few-exprs, c .before .before .before .before .before .before .before .before .pre .1, c .before .before .before .before .loop .inv .1)
+put-fields-requires c κs =
+    let pre = c .before .before .before .before .before .before .before .before .pre in
+    let loop = c .before .before .before .before .loop in
+    omega (arith, pre .0 .counts .few-exprs, pre .1, loop .inv .1)
 
 add-e : tie.Need-add-e Inv-loop μ-loop
 add-e c = search needs

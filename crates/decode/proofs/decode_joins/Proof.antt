@@ -21,7 +21,10 @@ loop-holds : tie.Need-loop-holds Inv-loop μ-loop
 loop-holds c = (search needs, below-none _, kept-none _ _)
 
 decode-row-requires : tie.Need-decode-row-requires Inv-loop μ-loop
-decode-row-requires c κs = (c .before .before .before .before .before .before .pre .0, omega (arith, c .before .before .before .before .before .before .pre .1, c .before .before .loop .inv .2 .long), omega arith)
+decode-row-requires c κs =
+    let pre = c .before .before .before .before .before .before .pre in
+    let loop = c .before .before .loop in
+    (pre .0, omega (arith, pre .1, loop .inv .2 .long), omega arith)
 
 add-a : tie.Need-add-a Inv-loop μ-loop
 add-a c = search needs
@@ -31,10 +34,15 @@ loop-less c = search needs
 
 loop-again : tie.Need-loop-again Inv-loop μ-loop
 loop-again c =
-    let inv = c .before .before .before .before .before .loop .inv in
-    let row = c .before .before .decode-row .ensures in (
+    let args = c .before .before .before .before .before .before .before .before .before .args in
+    let pre = c .before .before .before .before .before .before .before .before .before .pre in
+    let loop = c .before .before .before .before .before .loop in
+    let decode-row = c .before .before .decode-row in
+    let inv = loop .inv in
+    let row = decode-row .ensures in (
       omega arith,
-      joins-more (c .before .before .before .before .before .before .before .before .before .args .p .now) (c .before .before .before .before .before .loop .a) (c .before .before .before .before .before .before .before .before .before .pre .0 .few-tags) (row .1) (row .0) (inv .1),
+      joins-more (args .p .now)
+          (loop .a) (pre .0 .few-tags) (row .1) (row .0) (inv .1),
       kept-then (omega arith) (inv .2) (row .1),
     )
 

@@ -46,7 +46,12 @@ mul-t : tie.Need-mul-t Inv-loop μ-loop
 mul-t c = search needs
 
 slice-write-t : tie.Need-slice-write-t Inv-loop μ-loop
-slice-write-t c = omega (arith, c .before .before .before .before .before .before .before .before .pre .1, c .before .before .before .before .before .before .before .before .pre .0 .few-tags, c .before .before .before .loop .inv .2 .long, c .before .before .before .before .before .wide .ensures .0, c .wide2 .ensures .0)
+slice-write-t c =
+    let pre = c .before .before .before .before .before .before .before .before .pre in
+    let wide = c .before .before .before .before .before .wide in
+    let loop = c .before .before .before .loop in
+    let wide2 = c .wide2 in
+    omega (arith, pre .1, pre .0 .few-tags, loop .inv .2 .long, wide .ensures .0, wide2 .ensures .0)
 
 add-b : tie.Need-add-b Inv-loop μ-loop
 add-b c = search needs
@@ -56,18 +61,24 @@ loop-less c = search needs
 
 loop-again : tie.Need-loop-again Inv-loop μ-loop
 loop-again c =
-    let p = c .before .before .before .before .before .before .before .before .args .p .now in
-    let t = c .before .before .before .loop .t in
-    let a = c .before .before .before .before .before .before .before .before .args .a in
-    let b = c .before .before .before .loop .b in
-    let few = c .before .before .before .before .before .before .before .before .pre .0 .few-tags in
-    let size = c .before .before .before .before .before .before .before .before .pre .1 in
-    let same = c .before .before .before .loop .inv .2 .long in
-    let at : 8192 + 16 * c .before .before .before .before .before .wide .result + c .wide2 .result ≡ 8192 + 16 * a + b = omega (arith, c .before .before .before .before .before .wide .ensures .0, c .wide2 .ensures .0) in
+    let args = c .before .before .before .before .before .before .before .before .args in
+    let pre = c .before .before .before .before .before .before .before .before .pre in
+    let wide = c .before .before .before .before .before .wide in
+    let loop = c .before .before .before .loop in
+    let join = c .before .join in
+    let wide2 = c .wide2 in
+    let p = args .p .now in
+    let t = loop .t in
+    let a = args .a in
+    let b = loop .b in
+    let few = pre .0 .few-tags in
+    let size = pre .1 in
+    let same = loop .inv .2 .long in
+    let at : 8192 + 16 * wide .result + wide2 .result ≡ 8192 + 16 * a + b = omega (arith, wide .ensures .0, wide2 .ensures .0) in
     rw at (
       omega arith,
-      row-more p t a b _ (omega arith) (c .before .join .ensures .0) (c .before .before .before .loop .inv .1),
-      kept-then (omega arith) (c .before .before .before .loop .inv .2) (kept-set (8192 + 16 * a) t (8192 + 16 * a + b) _ (omega arith)),
+      row-more p t a b _ (omega arith) (join .ensures .0) (loop .inv .1),
+      kept-then (omega arith) (loop .inv .2) (kept-set (8192 + 16 * a) t (8192 + 16 * a + b) _ (omega arith)),
     )
 
 same-length : tie.Need-same-length Inv-loop μ-loop

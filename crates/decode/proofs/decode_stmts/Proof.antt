@@ -33,7 +33,10 @@ add-put-fields : tie.Need-add-put-fields Inv-loop μ-loop
 add-put-fields c = omega (arith, c .before .before .before .before .before .before .before .before .pre .0 .counts .few-stmts)
 
 put-fields-requires : tie.Need-put-fields-requires Inv-loop μ-loop
-put-fields-requires c κs = omega (arith, c .before .before .before .before .before .before .before .before .pre .0 .counts .few-stmts, c .before .before .before .before .before .before .before .before .pre .1, c .before .before .before .before .loop .inv .2 .long)
+put-fields-requires c κs =
+    let pre = c .before .before .before .before .before .before .before .before .pre in
+    let loop = c .before .before .before .before .loop in
+    omega (arith, pre .0 .counts .few-stmts, pre .1, loop .inv .2 .long)
 
 add-s : tie.Need-add-s Inv-loop μ-loop
 add-s c = search needs
@@ -44,8 +47,12 @@ loop-less c = search needs
 loop-again : tie.Need-loop-again Inv-loop μ-loop
 loop-again c =
     let inv = c .before .before .before .before .before .before .before .loop .inv in
-    let put = c .before .before .put-fields .ensures in
-    (omega arith, stmts-more _ _ (c .before .before .before .before .stmt-fields .ensures) (c .before .before .before .before .before .stmt-at .ensures) (put .0) (put .1) (inv .1), kept-then (omega arith) (inv .2) (put .1))
+    let put = c .before .before .put-fields .ensures in (
+      omega arith,
+      stmts-more _ _ (c .before .before .before .before .stmt-fields .ensures)
+          (c .before .before .before .before .before .stmt-at .ensures) (put .0) (put .1) (inv .1),
+      kept-then (omega arith) (inv .2) (put .1),
+    )
 
 same-length : tie.Need-same-length Inv-loop μ-loop
 same-length c = c .before .loop .inv .2 .long

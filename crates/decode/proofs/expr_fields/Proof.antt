@@ -56,8 +56,11 @@ one-operand-requires-2 c κs =
     let s = c .before .before .before .before .before .before .before in
     let x = c .before .before .before .before .expr-at .ensures in
     let told = c .before .before .op .given .1 in
-    let low = expr-fits _ _ x told (s .pre .0) (s .pre .1) in
-    (omega (arith, c .unary-number .ensures, unary-range (c .before .before .op .given .0 .0)), omega (arith, s .pre .0 .counts .few-exprs, s .pre .1), s .pre .2)
+    let low = expr-fits _ _ x told (s .pre .0) (s .pre .1) in (
+      omega (arith, c .unary-number .ensures, unary-range (c .before .before .op .given .0 .0)),
+      omega (arith, s .pre .0 .counts .few-exprs, s .pre .1),
+      s .pre .2,
+    )
 
 enum-known-op-2 : tie.Need-enum-known-op-2
 enum-known-op-2 c = search needs
@@ -70,8 +73,12 @@ two-operands-requires c κs =
     let s = c .before .before .before .before .before .before .before in
     let x = c .before .before .before .before .expr-at .ensures in
     let told = c .before .before .op2 .given .1 in
-    let low = expr-fits _ _ x told (s .pre .0) (s .pre .1) in
-    (omega (arith, c .binary-number .ensures, binary-range (c .before .before .op2 .given .0 .0)), omega (arith, s .pre .0 .counts .few-exprs, s .pre .1, low .0), omega (arith, s .pre .0 .counts .few-exprs, s .pre .1, low .1), s .pre .2)
+    let low = expr-fits _ _ x told (s .pre .0) (s .pre .1) in (
+      omega (arith, c .binary-number .ensures, binary-range (c .before .before .op2 .given .0 .0)),
+      omega (arith, s .pre .0 .counts .few-exprs, s .pre .1, low .0),
+      omega (arith, s .pre .0 .counts .few-exprs, s .pre .1, low .1),
+      s .pre .2,
+    )
 
 enum-told-2 : tie.Need-enum-told-2
 enum-told-2 c = search needs
@@ -103,7 +110,8 @@ returns-4 c =
     let s = c .before .before .before .before .before .before .before .before in
     let x = c .before .before .before .before .before .expr-at .ensures in
     let told = c .before .before .before .op .given .1 in
-    expr-told _ _ x told (rw (c .before .unary-number .ensures) at (c .one-operand2 .ensures _ (s .pre .3 _ (expr-fits _ _ x told (s .pre .0) (s .pre .1)))))
+    expr-told _ _ x told (rw (c .before .unary-number .ensures) at (c .one-operand2 .ensures _
+    (s .pre .3 _ (expr-fits _ _ x told (s .pre .0) (s .pre .1)))))
 
 returns-5 : tie.Need-returns-5
 returns-5 c =

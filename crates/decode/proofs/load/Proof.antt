@@ -26,10 +26,22 @@ load-constants-requires c κs = search needs
 
 returns : tie.Need-returns
 returns c =
-    let few = c .before .before .before .before .before .before .before .before .pre .0 .counts in
-    let n : c .before .before .before .before .before .half-at .result + c .before .before .before .before .half-at2 .result ≡ count (recipeOf (c .before .before .before .before .before .before .before .before .args .r .now)) = omega (arith, c .before .before .before .before .before .half-at .ensures .0, c .before .before .before .before .half-at2 .ensures .0) in
-    let all = rw n at (c .before .before .load-places .ensures) in
-    (held-places _ _ _ (places-kept (c .before .before .before .before .before .before .before .before .args .m .now) (count (recipeOf (c .before .before .before .before .before .before .before .before .args .r .now))) (c .load-constants .ensures .1) (omega (arith, few .few-vars, few .few-cells)) all), c .load-constants .ensures .0, search needs)
+    let pre = c .before .before .before .before .before .before .before .before .pre in
+    let args = c .before .before .before .before .before .before .before .before .args in
+    let half-at = c .before .before .before .before .before .half-at in
+    let half-at2 = c .before .before .before .before .half-at2 in
+    let load-places = c .before .before .load-places in
+    let load-constants = c .load-constants in
+    let few = pre .0 .counts in
+    let n : half-at .result + half-at2 .result ≡ count
+    (recipeOf (args .r .now)) = omega (arith, half-at .ensures .0, half-at2 .ensures .0) in
+    let all = rw n at (load-places .ensures) in (
+      held-places _ _ _ (places-kept (args .m .now)
+          (count (recipeOf (args .r .now))) (load-constants .ensures .1)
+          (omega (arith, few .few-vars, few .few-cells)) all),
+      load-constants .ensures .0,
+      search needs,
+    )
 
 pub load-spec : {M : Type 1} → statement M
 load-spec =

@@ -25,7 +25,10 @@ expr-at-requires : tie.Need-expr-at-requires Inv-loop μ-loop
 expr-at-requires c κs = omega (arith, c .before .before .before .before .before .pre .0 .long)
 
 load-constant-requires : tie.Need-load-constant-requires Inv-loop μ-loop
-load-constant-requires c κs = (omega (arith, c .before .before .before .before .before .before .before .pre .0 .counts .few-exprs), omega (arith, c .before .before .before .before .before .before .before .pre .1, c .before .before .before .loop .inv .2 .long))
+load-constant-requires c κs =
+    let pre = c .before .before .before .before .before .before .before .pre in
+    let loop = c .before .before .before .loop in
+    (omega (arith, pre .0 .counts .few-exprs), omega (arith, pre .1, loop .inv .2 .long))
 
 add-e : tie.Need-add-e Inv-loop μ-loop
 add-e c = search needs
@@ -36,8 +39,12 @@ loop-less c = search needs
 loop-again : tie.Need-loop-again Inv-loop μ-loop
 loop-again c =
     let inv = c .before .before .before .before .before .before .loop .inv in
-    let put = c .before .before .load-constant .ensures in
-    (omega arith, constants-more _ _ (c .before .before .before .before .expr-at .ensures) (put .0) (put .1) (inv .1), kept-then (omega arith) (inv .2) (put .1))
+    let put = c .before .before .load-constant .ensures in (
+      omega arith,
+      constants-more _ _ (c .before .before .before .before .expr-at .ensures) (put .0) (put .1) (inv .1),
+      kept-then (omega arith)
+          (inv .2) (put .1),
+    )
 
 same-length : tie.Need-same-length Inv-loop μ-loop
 same-length c = c .before .loop .inv .2 .long

@@ -52,7 +52,9 @@ loop-again c =
     let few = c .before .before .before .before .before .before .before .pre .0 in (
       omega arith,
       simp length-set (inv .1),
-      places-more (c .before .before .before .before .before .before .before .args .m .now) (c .before .before .before .before .loop .u) (c .before .before .before .before .loop .i) (c .before .before .place-at .result) (omega arith) (omega arith) (c .before .before .place-at .ensures) (inv .2),
+      places-more (c .before .before .before .before .before .before .before .args .m .now) (c .before .before .before .before .loop .u)
+          (c .before .before .before .before .loop .i) (c .before .before .place-at .result) (omega arith) (omega arith)
+          (c .before .before .place-at .ensures) (inv .2),
     )
 
 same-length : tie.Need-same-length Inv-loop μ-loop

@@ -45,14 +45,20 @@ loop-less c = search needs
 
 loop-again : tie.Need-loop-again Inv-loop μ-loop
 loop-again c =
-    let u = c .before .before .before .before .before .before .before .before .args .u .now in
-    let i = c .before .before .before .before .before .before .loop .i in
-    let inv = c .before .before .before .before .before .before .loop .inv in
-    let put = c .before .before .put-place .ensures in
-    let long : 5 * c .before .before .before .before .before .before .before .before .args .count ≤ length (c .before .before .before .before .before .before .loop .m) = omega (arith, inv .1, c .before .before .before .before .before .before .before .before .pre .1) in (
+    let args = c .before .before .before .before .before .before .before .before .args in
+    let pre = c .before .before .before .before .before .before .before .before .pre in
+    let loop = c .before .before .before .before .before .before .loop in
+    let put-place = c .before .before .put-place in
+    let slice-known2 = c .slice-known2 in
+    let u = args .u .now in
+    let i = loop .i in
+    let inv = loop .inv in
+    let put = put-place .ensures in
+    let long : 5 * args .count ≤ length
+    (loop .m) = omega (arith, inv .1, pre .1) in (
       omega arith,
       rw (put .0) (length-placed _ _ _ ∙ inv .1),
-      (λ j. c .slice-known2 .given j .fits),
+      (λ j. slice-known2 .given j .fits),
       rw (put .0) (back-more _ _ long i (omega arith) (placeIn u i) (put .1) u refl (inv .3)),
     )
 
@@ -60,7 +66,10 @@ same-length : tie.Need-same-length Inv-loop μ-loop
 same-length c = search needs
 
 returns : tie.Need-returns Inv-loop μ-loop
-returns c = back-done _ _ _ (omega (arith, c .before .loop .inv .1, c .before .before .before .pre .1)) (c .before .loop .inv .2) (λ j h. c .before .loop .inv .3 j (omega arith))
+returns c =
+    let pre = c .before .before .before .pre in
+    let loop = c .before .loop in
+    back-done _ _ _ (omega (arith, loop .inv .1, pre .1)) (loop .inv .2) (λ j h. loop .inv .3 j (omega arith))
 
 pub write-back-spec : {M : Type 1} → statement M
 write-back-spec =

@@ -65,46 +65,157 @@ deep-element-copy-out-operand : (t : ℕ) → deep-lts.Need-element-copy-out-ope
 deep-element-copy-out-operand t c = omega (arith, c .before .pre .1 .0 .ready .recipe .counts .few-exprs, c .before .pre .1 .0 .there)
 
 deep-cast-operand : (t : ℕ) → deep-lts.Need-cast-operand (deep-claims t) (deep-at t) deep.Post
-deep-cast-operand t c = let g = c .before .before .pre .1 .0 in let e = c .before .before .args .e in let h = c .before .before .pre .1 .1 in omega (arith, left-lower (g .ready) e (g .there) h, c .before .before .fits .e)
+deep-cast-operand t c =
+    let pre = c .before .before .pre in
+    let args = c .before .before .args in
+    let fits = c .before .before .fits in
+    let g = pre .1 .0 in
+    let e = args .e in
+    let h = pre .1 .1 in
+    omega (arith, left-lower (g .ready) e (g .there) h, fits .e)
 
 deep-operand-requires : (t : ℕ) → deep-lts.Need-operand-requires (deep-claims t) (deep-at t) deep.Post
-deep-operand-requires t c κs = let g = c .before .before .pre .1 .0 in let e = c .before .before .args .e in let h = c .before .before .pre .1 .1 in (omega (arith, left-lower (g .ready) e (g .there) h), record { recipe = g .recipe; policy = g .policy; ready = g .ready; there = left-there (g .ready) e (g .there) h })
+deep-operand-requires t c κs =
+    let pre = c .before .before .pre in
+    let args = c .before .before .args in
+    let g = pre .1 .0 in
+    let e = args .e in
+    let h = pre .1 .1 in (
+      omega (arith, left-lower (g .ready) e (g .there) h),
+      record {
+        recipe = g .recipe;
+        policy = g .policy;
+        ready = g .ready;
+        there = left-there (g .ready) e (g .there) h;
+      },
+    )
 
 deep-returns : (t : ℕ) → deep-lts.Need-returns (deep-claims t) (deep-at t) deep.Post
-deep-returns t c = let e = c .before .before .before .before .args .e in let h = c .before .before .before .before .pre .1 .1 in λ r p a there. let f = c .before .operand .ensures _ _ a (left-there a e there h) in left-fault a e there h f (c .if1 .taken)
+deep-returns t c =
+    let args = c .before .before .before .before .args in
+    let pre = c .before .before .before .before .pre in
+    let operand = c .before .operand in
+    let if1 = c .if1 in
+    let e = args .e in
+    let h = pre .1 .1 in
+    λ r p a there. let f = operand .ensures _ _ a (left-there a e there h) in
+    left-fault a e there h f (if1 .taken)
 
 deep-apply-requires : (t : ℕ) → deep-lts.Need-apply-requires (deep-claims t) (deep-at t) deep.Post
-deep-apply-requires t c κs = let g = c .before .before .before .before .before .pre .1 .0 in let e = c .before .before .before .before .before .args .e in let h = c .before .before .before .before .before .pre .1 .1 in let f = c .before .before .operand .ensures _ _ (g .ready) (left-there (g .ready) e (g .there) h) in one-asks (g .ready) e (g .there) h f (c .before .if1 .left) (c .if2 .taken) _
+deep-apply-requires t c κs =
+    let pre = c .before .before .before .before .before .pre in
+    let args = c .before .before .before .before .before .args in
+    let operand = c .before .before .operand in
+    let if1 = c .before .if1 in
+    let if2 = c .if2 in
+    let g = pre .1 .0 in
+    let e = args .e in
+    let h = pre .1 .1 in
+    let f = operand .ensures _ _ (g .ready) (left-there (g .ready) e (g .there) h) in
+    one-asks (g .ready) e (g .there) h f (if1 .left) (if2 .taken) _
 
 deep-returns-2 : (t : ℕ) → deep-lts.Need-returns-2 (deep-claims t) (deep-at t) deep.Post
-deep-returns-2 t c = let e = c .before .before .before .before .before .before .args .e in let h = c .before .before .before .before .before .before .pre .1 .1 in λ r p a there. let f = c .before .before .before .operand .ensures _ _ a (left-there a e there h) in one-value a e there h f (c .before .before .if1 .left) (c .before .if2 .taken) _ (c .apply .ensures)
+deep-returns-2 t c =
+    let args = c .before .before .before .before .before .before .args in
+    let pre = c .before .before .before .before .before .before .pre in
+    let operand = c .before .before .before .operand in
+    let if1 = c .before .before .if1 in
+    let if2 = c .before .if2 in
+    let apply = c .apply in
+    let e = args .e in
+    let h = pre .1 .1 in
+    λ r p a there. let f = operand .ensures _ _ a (left-there a e there h) in
+    one-value a e there h f (if1 .left) (if2 .taken) _ (apply .ensures)
 
 deep-mul-operand-3 : (t : ℕ) → deep-lts.Need-mul-operand-3 (deep-claims t) (deep-at t) deep.Post
-deep-mul-operand-3 t c = omega (arith, c .before .before .before .before .before .pre .1 .0 .ready .recipe .counts .few-exprs, c .before .before .before .before .before .pre .1 .0 .there)
+deep-mul-operand-3 t c =
+    let pre = c .before .before .before .before .before .pre in
+    omega (arith, pre .1 .0 .ready .recipe .counts .few-exprs, pre .1 .0 .there)
 
 deep-add-operand-2 : (t : ℕ) → deep-lts.Need-add-operand-2 (deep-claims t) (deep-at t) deep.Post
-deep-add-operand-2 t c = omega (arith, c .before .before .before .before .before .pre .1 .0 .ready .recipe .counts .few-exprs, c .before .before .before .before .before .pre .1 .0 .there)
+deep-add-operand-2 t c =
+    let pre = c .before .before .before .before .before .pre in
+    omega (arith, pre .1 .0 .ready .recipe .counts .few-exprs, pre .1 .0 .there)
 
 deep-mul-operand-4 : (t : ℕ) → deep-lts.Need-mul-operand-4 (deep-claims t) (deep-at t) deep.Post
-deep-mul-operand-4 t c = omega (arith, c .before .before .before .before .before .pre .1 .0 .ready .recipe .counts .few-exprs, c .before .before .before .before .before .pre .1 .0 .there)
+deep-mul-operand-4 t c =
+    let pre = c .before .before .before .before .before .pre in
+    omega (arith, pre .1 .0 .ready .recipe .counts .few-exprs, pre .1 .0 .there)
 
 deep-element-copy-out-operand-2 : (t : ℕ) → deep-lts.Need-element-copy-out-operand-2 (deep-claims t) (deep-at t) deep.Post
-deep-element-copy-out-operand-2 t c = omega (arith, c .before .before .before .before .before .pre .1 .0 .ready .recipe .counts .few-exprs, c .before .before .before .before .before .pre .1 .0 .there)
+deep-element-copy-out-operand-2 t c =
+    let pre = c .before .before .before .before .before .pre in
+    omega (arith, pre .1 .0 .ready .recipe .counts .few-exprs, pre .1 .0 .there)
 
 deep-cast-operand-2 : (t : ℕ) → deep-lts.Need-cast-operand-2 (deep-claims t) (deep-at t) deep.Post
-deep-cast-operand-2 t c = let g = c .before .before .before .before .before .before .pre .1 .0 in let e = c .before .before .before .before .before .before .args .e in let h = c .before .before .before .before .before .before .pre .1 .1 in omega (arith, right-lower (g .ready) e (g .there) h (c .before .if2 .left), c .before .before .before .before .before .before .fits .e)
+deep-cast-operand-2 t c =
+    let pre = c .before .before .before .before .before .before .pre in
+    let args = c .before .before .before .before .before .before .args in
+    let fits = c .before .before .before .before .before .before .fits in
+    let if2 = c .before .if2 in
+    let g = pre .1 .0 in
+    let e = args .e in
+    let h = pre .1 .1 in
+    omega (arith, right-lower (g .ready) e (g .there) h (if2 .left), fits .e)
 
 deep-operand-requires-2 : (t : ℕ) → deep-lts.Need-operand-requires-2 (deep-claims t) (deep-at t) deep.Post
-deep-operand-requires-2 t c κs = let g = c .before .before .before .before .before .before .pre .1 .0 in let e = c .before .before .before .before .before .before .args .e in let h = c .before .before .before .before .before .before .pre .1 .1 in (omega (arith, right-lower (g .ready) e (g .there) h (c .before .if2 .left)), record { recipe = g .recipe; policy = g .policy; ready = g .ready; there = right-there (g .ready) e (g .there) h (c .before .if2 .left) })
+deep-operand-requires-2 t c κs =
+    let pre = c .before .before .before .before .before .before .pre in
+    let args = c .before .before .before .before .before .before .args in
+    let if2 = c .before .if2 in
+    let g = pre .1 .0 in
+    let e = args .e in
+    let h = pre .1 .1 in (
+      omega (arith, right-lower (g .ready) e (g .there) h (if2 .left)),
+      record { recipe = g .recipe; policy = g .policy; ready = g .ready; there = right-there (g .ready) e (g .there) h (if2 .left) },
+    )
 
 deep-returns-3 : (t : ℕ) → deep-lts.Need-returns-3 (deep-claims t) (deep-at t) deep.Post
-deep-returns-3 t c = let e = c .before .before .before .before .before .before .before .before .args .e in let h = c .before .before .before .before .before .before .before .before .pre .1 .1 in λ r p a there. let f = c .before .before .before .before .before .operand .ensures _ _ a (left-there a e there h) in let k = c .before .operand2 .ensures _ _ a (right-there a e there h (c .before .before .before .if2 .left)) in right-fault a e there h f (c .before .before .before .before .if1 .left) (c .before .before .before .if2 .left) k (c .if3 .taken)
+deep-returns-3 t c =
+    let args = c .before .before .before .before .before .before .before .before .args in
+    let pre = c .before .before .before .before .before .before .before .before .pre in
+    let operand = c .before .before .before .before .before .operand in
+    let if1 = c .before .before .before .before .if1 in
+    let if2 = c .before .before .before .if2 in
+    let operand2 = c .before .operand2 in
+    let if3 = c .if3 in
+    let e = args .e in
+    let h = pre .1 .1 in
+    λ r p a there. let f = operand .ensures _ _ a (left-there a e there h) in
+    let k = operand2 .ensures _ _ a (right-there a e there h (if2 .left)) in
+    right-fault a e there h f (if1 .left) (if2 .left) k (if3 .taken)
 
 deep-apply-requires-2 : (t : ℕ) → deep-lts.Need-apply-requires-2 (deep-claims t) (deep-at t) deep.Post
-deep-apply-requires-2 t c κs = let g = c .before .before .before .before .before .before .before .before .pre .1 .0 in let e = c .before .before .before .before .before .before .before .before .args .e in let h = c .before .before .before .before .before .before .before .before .pre .1 .1 in let f = c .before .before .before .before .before .operand .ensures _ _ (g .ready) (left-there (g .ready) e (g .there) h) in let k = c .before .operand2 .ensures _ _ (g .ready) (right-there (g .ready) e (g .there) h (c .before .before .before .if2 .left)) in two-asks (g .ready) e (g .there) h f (c .before .before .before .before .if1 .left) (c .before .before .before .if2 .left) k (c .if3 .left)
+deep-apply-requires-2 t c κs =
+    let pre = c .before .before .before .before .before .before .before .before .pre in
+    let args = c .before .before .before .before .before .before .before .before .args in
+    let operand = c .before .before .before .before .before .operand in
+    let if1 = c .before .before .before .before .if1 in
+    let if2 = c .before .before .before .if2 in
+    let operand2 = c .before .operand2 in
+    let if3 = c .if3 in
+    let g = pre .1 .0 in
+    let e = args .e in
+    let h = pre .1 .1 in
+    let f = operand .ensures _ _ (g .ready) (left-there (g .ready) e (g .there) h) in
+    let k = operand2 .ensures _ _ (g .ready) (right-there (g .ready) e (g .there) h (if2 .left)) in
+    two-asks (g .ready) e (g .there) h f (if1 .left) (if2 .left) k (if3 .left)
 
 deep-returns-4 : (t : ℕ) → deep-lts.Need-returns-4 (deep-claims t) (deep-at t) deep.Post
-deep-returns-4 t c = let e = c .before .before .before .before .before .before .before .before .before .args .e in let h = c .before .before .before .before .before .before .before .before .before .pre .1 .1 in λ r p a there. let f = c .before .before .before .before .before .before .operand .ensures _ _ a (left-there a e there h) in let k = c .before .before .operand2 .ensures _ _ a (right-there a e there h (c .before .before .before .before .if2 .left)) in two-value a e there h f (c .before .before .before .before .before .if1 .left) (c .before .before .before .before .if2 .left) k (c .before .if3 .left) (c .apply2 .ensures)
+deep-returns-4 t c =
+    let args = c .before .before .before .before .before .before .before .before .before .args in
+    let pre = c .before .before .before .before .before .before .before .before .before .pre in
+    let operand = c .before .before .before .before .before .before .operand in
+    let if1 = c .before .before .before .before .before .if1 in
+    let if2 = c .before .before .before .before .if2 in
+    let operand2 = c .before .before .operand2 in
+    let if3 = c .before .if3 in
+    let apply2 = c .apply2 in
+    let e = args .e in
+    let h = pre .1 .1 in
+    λ r p a there. let f = operand .ensures _ _ a (left-there a e there h) in
+    let k = operand2 .ensures _ _ a (right-there a e there h (if2 .left)) in
+    two-value a e there h f (if1 .left) (if2 .left) k (if3 .left) (apply2 .ensures)
 
 operand-mul-if1 : (t : ℕ) → operand-lts.Need-mul-if1 (operand-claims t) (operand-at t) operand.Post
 operand-mul-if1 t c = omega (arith, c .pre .1 .ready .recipe .counts .few-exprs, c .pre .1 .there)

@@ -63,7 +63,13 @@ add-result c = search needs
 
 returns : tie.Need-returns
 unfolding appliedIn given valueOf tagOf unary unaryFrom binary divides binaryFrom stopNumber
-returns c = let n : wordIn (c .before .before .before .before .args .y) ≡ 0 = sym (c .before .before .word-of2 .ensures) ∙ c .if1 .taken in rw (c .before .match .keys8, n)
+returns c =
+    let args = c .before .before .before .before .args in
+    let word-of2 = c .before .before .word-of2 in
+    let match = c .before .match in
+    let if1 = c .if1 in
+    let n : wordIn (args .y) ≡ 0 = sym (word-of2 .ensures) ∙ if1 .taken in
+    rw (match .keys8, n)
 
 div-requires : tie.Need-div-requires
 div-requires c κs = search needs
@@ -76,7 +82,13 @@ add-result-2 c = search needs
 
 returns-2 : tie.Need-returns-2
 unfolding appliedIn given valueOf tagOf unary unaryFrom binary divides binaryFrom stopNumber
-returns-2 c = let n : wordIn (c .before .before .before .before .args .y) ≡ 0 = sym (c .before .before .word-of2 .ensures) ∙ c .if2 .taken in rw (c .before .match .keys9, n)
+returns-2 c =
+    let args = c .before .before .before .before .args in
+    let word-of2 = c .before .before .word-of2 in
+    let match = c .before .match in
+    let if2 = c .if2 in
+    let n : wordIn (args .y) ≡ 0 = sym (word-of2 .ensures) ∙ if2 .taken in
+    rw (match .keys9, n)
 
 rem-requires : tie.Need-rem-requires
 rem-requires c κs = search needs
@@ -106,7 +118,12 @@ is-not-equal-requires : tie.Need-is-not-equal-requires
 is-not-equal-requires c κs = search needs
 
 both-requires-9 : tie.Need-both-requires-9
-both-requires-9 c κs = let a : 5 ≤ c .before .before .before .before .args .k = omega (arith, c .before .before .before .before .pre .some, c .before .match .rest .0 .0 .0 .0 .0 .0 .0 .0 .0 .0 .0 .1, c .before .match .rest .0 .0 .0 .0 .0 .0 .0 .0 .0 .0 .1, c .before .match .rest .0 .0 .0 .0 .0 .0 .0 .0 .0 .1, c .before .match .rest .0 .0 .0 .0 .0 .0 .0 .0 .1) in c .before .before .before .before .pre .tags a
+both-requires-9 c κs =
+    let args = c .before .before .before .before .args in
+    let pre = c .before .before .before .before .pre in
+    let match = c .before .match in
+    let a : 5 ≤ args .k = omega (arith, pre .some, match .rest .0 .0 .0 .0 .0 .0 .0 .0 .0 .0 .0 .1, match .rest .0 .0 .0 .0 .0 .0 .0 .0 .0 .0 .1, match .rest .0 .0 .0 .0 .0 .0 .0 .0 .0 .1, match .rest .0 .0 .0 .0 .0 .0 .0 .0 .1) in
+    pre .tags a
 
 returns-3 : tie.Need-returns-3
 unfolding appliedIn given valueOf tagOf unary unaryFrom binary divides binaryFrom stopNumber
@@ -126,39 +143,102 @@ returns-6 c = rw (c .before .before .match .keys4, c .one3 .ensures, c .before .
 
 returns-7 : tie.Need-returns-7
 unfolding appliedIn given valueOf tagOf unary unaryFrom binary divides binaryFrom stopNumber
-returns-7 c = rw (c .before .before .match .keys5, c .both .ensures, c .before .add .ensures, c .before .before .before .before .word-of .ensures, c .before .before .before .word-of2 .ensures)
+returns-7 c =
+    let word-of = c .before .before .before .before .word-of in
+    let word-of2 = c .before .before .before .word-of2 in
+    let match = c .before .before .match in
+    let add = c .before .add in
+    let both = c .both in
+    rw (match .keys5, both .ensures, add .ensures, word-of .ensures, word-of2 .ensures)
 
 returns-8 : tie.Need-returns-8
 unfolding appliedIn given valueOf tagOf unary unaryFrom binary divides binaryFrom stopNumber
-returns-8 c = rw (c .before .before .match .keys6, c .both2 .ensures, c .before .sub .ensures, c .before .before .before .before .word-of .ensures, c .before .before .before .word-of2 .ensures)
+returns-8 c =
+    let word-of = c .before .before .before .before .word-of in
+    let word-of2 = c .before .before .before .word-of2 in
+    let match = c .before .before .match in
+    let sub = c .before .sub in
+    let both2 = c .both2 in
+    rw (match .keys6, both2 .ensures, sub .ensures, word-of .ensures, word-of2 .ensures)
 
 returns-9 : tie.Need-returns-9
 unfolding appliedIn given valueOf tagOf unary unaryFrom binary divides binaryFrom stopNumber
-returns-9 c = rw (c .before .before .match .keys7, c .both3 .ensures, c .before .mul .ensures, c .before .before .before .before .word-of .ensures, c .before .before .before .word-of2 .ensures)
+returns-9 c =
+    let word-of = c .before .before .before .before .word-of in
+    let word-of2 = c .before .before .before .word-of2 in
+    let match = c .before .before .match in
+    let mul = c .before .mul in
+    let both3 = c .both3 in
+    rw (match .keys7, both3 .ensures, mul .ensures, word-of .ensures, word-of2 .ensures)
 
 returns-10 : tie.Need-returns-10
 unfolding appliedIn given valueOf tagOf unary unaryFrom binary divides binaryFrom stopNumber
-returns-10 c = rw (c .before .before .before .match .keys8, ne-eqb (wordIn (c .before .before .before .before .before .before .args .y)) 0 (λ e. c .before .before .if1 .left (c .before .before .before .before .word-of2 .ensures ∙ e)), c .both4 .ensures, c .before .div .ensures, c .before .before .before .before .before .word-of .ensures, c .before .before .before .before .word-of2 .ensures)
+returns-10 c =
+    let args = c .before .before .before .before .before .before .args in
+    let word-of = c .before .before .before .before .before .word-of in
+    let word-of2 = c .before .before .before .before .word-of2 in
+    let match = c .before .before .before .match in
+    let if1 = c .before .before .if1 in
+    let div = c .before .div in
+    let both4 = c .both4 in
+    rw (match .keys8, ne-eqb (wordIn (args .y)) 0 (λ e. if1 .left (word-of2 .ensures ∙ e)), both4 .ensures, div .ensures, word-of .ensures, word-of2 .ensures)
 
 returns-11 : tie.Need-returns-11
 unfolding appliedIn given valueOf tagOf unary unaryFrom binary divides binaryFrom stopNumber
-returns-11 c = rw (c .before .before .before .match .keys9, ne-eqb (wordIn (c .before .before .before .before .before .before .args .y)) 0 (λ e. c .before .before .if2 .left (c .before .before .before .before .word-of2 .ensures ∙ e)), c .both5 .ensures, c .before .rem .ensures, c .before .before .before .before .before .word-of .ensures, c .before .before .before .before .word-of2 .ensures)
+returns-11 c =
+    let args = c .before .before .before .before .before .before .args in
+    let word-of = c .before .before .before .before .before .word-of in
+    let word-of2 = c .before .before .before .before .word-of2 in
+    let match = c .before .before .before .match in
+    let if2 = c .before .before .if2 in
+    let rem = c .before .rem in
+    let both5 = c .both5 in
+    rw (match .keys9, ne-eqb (wordIn (args .y)) 0 (λ e. if2 .left (word-of2 .ensures ∙ e)), both5 .ensures, rem .ensures, word-of .ensures, word-of2 .ensures)
 
 returns-12 : tie.Need-returns-12
 unfolding appliedIn given valueOf tagOf unary unaryFrom binary divides binaryFrom stopNumber
-returns-12 c = rw (c .before .before .match .keys10, c .both6 .ensures, c .before .is-less .ensures, c .before .before .before .before .word-of .ensures, c .before .before .before .word-of2 .ensures)
+returns-12 c =
+    let word-of = c .before .before .before .before .word-of in
+    let word-of2 = c .before .before .before .word-of2 in
+    let match = c .before .before .match in
+    let is-less = c .before .is-less in
+    let both6 = c .both6 in
+    rw (match .keys10, both6 .ensures, is-less .ensures, word-of .ensures, word-of2 .ensures)
 
 returns-13 : tie.Need-returns-13
 unfolding appliedIn given valueOf tagOf unary unaryFrom binary divides binaryFrom stopNumber
-returns-13 c = rw (c .before .before .match .keys11, c .both7 .ensures, c .before .is-less-equal .ensures, c .before .before .before .before .word-of .ensures, c .before .before .before .word-of2 .ensures)
+returns-13 c =
+    let word-of = c .before .before .before .before .word-of in
+    let word-of2 = c .before .before .before .word-of2 in
+    let match = c .before .before .match in
+    let is-less-equal = c .before .is-less-equal in
+    let both7 = c .both7 in
+    rw (match .keys11, both7 .ensures, is-less-equal .ensures, word-of .ensures, word-of2 .ensures)
 
 returns-14 : tie.Need-returns-14
 unfolding appliedIn given valueOf tagOf unary unaryFrom binary divides binaryFrom stopNumber
-returns-14 c = rw (c .before .before .match .keys12, c .both8 .ensures, c .before .is-equal .ensures, c .before .before .before .before .word-of .ensures, c .before .before .before .word-of2 .ensures)
+returns-14 c =
+    let word-of = c .before .before .before .before .word-of in
+    let word-of2 = c .before .before .before .word-of2 in
+    let match = c .before .before .match in
+    let is-equal = c .before .is-equal in
+    let both8 = c .both8 in
+    rw (match .keys12, both8 .ensures, is-equal .ensures, word-of .ensures, word-of2 .ensures)
 
 returns-15 : tie.Need-returns-15
 unfolding appliedIn given valueOf tagOf unary unaryFrom binary divides binaryFrom stopNumber
-returns-15 c = let a : 5 ≤ c .before .before .before .before .before .args .k = omega (arith, c .before .before .before .before .before .pre .some, c .before .before .match .rest .0 .0 .0 .0 .0 .0 .0 .0 .0 .0 .0 .1, c .before .before .match .rest .0 .0 .0 .0 .0 .0 .0 .0 .0 .0 .1, c .before .before .match .rest .0 .0 .0 .0 .0 .0 .0 .0 .0 .1, c .before .before .match .rest .0 .0 .0 .0 .0 .0 .0 .0 .1) in let b : 9 ≤ c .before .before .before .before .before .args .k = omega (arith, a, c .before .before .match .rest .0 .0 .0 .0 .0 .0 .0 .1, c .before .before .match .rest .0 .0 .0 .0 .0 .0 .1, c .before .before .match .rest .0 .0 .0 .0 .0 .1, c .before .before .match .rest .0 .0 .0 .0 .1) in let e : c .before .before .before .before .before .args .k ≡ 13 = omega (arith, b, c .before .before .before .before .before .pre .few, c .before .before .match .rest .0 .0 .0 .1, c .before .before .match .rest .0 .0 .1, c .before .before .match .rest .0 .1, c .before .before .match .rest .1) in rw (e, c .both9 .ensures, c .before .is-not-equal .ensures, c .before .before .before .before .word-of .ensures, c .before .before .before .word-of2 .ensures)
+returns-15 c =
+    let args = c .before .before .before .before .before .args in
+    let pre = c .before .before .before .before .before .pre in
+    let word-of = c .before .before .before .before .word-of in
+    let word-of2 = c .before .before .before .word-of2 in
+    let match = c .before .before .match in
+    let is-not-equal = c .before .is-not-equal in
+    let both9 = c .both9 in
+    let a : 5 ≤ args .k = omega (arith, pre .some, match .rest .0 .0 .0 .0 .0 .0 .0 .0 .0 .0 .0 .1, match .rest .0 .0 .0 .0 .0 .0 .0 .0 .0 .0 .1, match .rest .0 .0 .0 .0 .0 .0 .0 .0 .0 .1, match .rest .0 .0 .0 .0 .0 .0 .0 .0 .1) in
+    let b : 9 ≤ args .k = omega (arith, a, match .rest .0 .0 .0 .0 .0 .0 .0 .1, match .rest .0 .0 .0 .0 .0 .0 .1, match .rest .0 .0 .0 .0 .0 .1, match .rest .0 .0 .0 .0 .1) in
+    let e : args .k ≡ 13 = omega (arith, b, pre .few, match .rest .0 .0 .0 .1, match .rest .0 .0 .1, match .rest .0 .1, match .rest .1) in
+    rw (e, both9 .ensures, is-not-equal .ensures, word-of .ensures, word-of2 .ensures)
 
 pub apply-spec : {M : Type 1} → statement M
 apply-spec =

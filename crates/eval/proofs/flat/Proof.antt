@@ -32,7 +32,13 @@ element-copy-out-b : tie.Need-element-copy-out-b
 element-copy-out-b c = omega (arith, c .before .pre .0 .ready .recipe .counts .few-exprs, c .before .pre .0 .there)
 
 cast-b : tie.Need-cast-b
-cast-b c = let g = c .before .before .pre .0 in let e = c .before .before .args .e in let h = c .before .before .pre .2 in omega (arith, right-place (g .ready) e (g .there) h)
+cast-b c =
+    let pre = c .before .before .pre in
+    let args = c .before .before .args in
+    let g = pre .0 in
+    let e = args .e in
+    let h = pre .2 in
+    omega (arith, right-place (g .ready) e (g .there) h)
 
 mul-apply : tie.Need-mul-apply
 mul-apply c = omega (arith, c .before .before .pre .0 .ready .recipe .counts .few-exprs, c .before .before .pre .0 .there)
@@ -44,22 +50,56 @@ element-copy-out-apply : tie.Need-element-copy-out-apply
 element-copy-out-apply c = omega (arith, c .before .before .pre .0 .ready .recipe .counts .few-exprs, c .before .before .pre .0 .there)
 
 mul-apply-3 : tie.Need-mul-apply-3
-mul-apply-3 c = let g = c .before .before .before .pre .0 in let e = c .before .before .before .args .e in let h = c .before .before .before .pre .2 in omega (arith, left-place (g .ready) e (g .there) h)
+mul-apply-3 c =
+    let pre = c .before .before .before .pre in
+    let args = c .before .before .before .args in
+    let g = pre .0 in
+    let e = args .e in
+    let h = pre .2 in
+    omega (arith, left-place (g .ready) e (g .there) h)
 
 element-copy-out-apply-2 : tie.Need-element-copy-out-apply-2
-element-copy-out-apply-2 c = let g = c .before .before .before .pre .0 in let e = c .before .before .before .args .e in let h = c .before .before .before .pre .2 in omega (arith, left-place (g .ready) e (g .there) h)
+element-copy-out-apply-2 c =
+    let pre = c .before .before .before .pre in
+    let args = c .before .before .before .args in
+    let g = pre .0 in
+    let e = args .e in
+    let h = pre .2 in
+    omega (arith, left-place (g .ready) e (g .there) h)
 
 mul-apply-4 : tie.Need-mul-apply-4
-mul-apply-4 c = let g = c .before .before .before .before .pre .0 in let e = c .before .before .before .before .args .e in let h = c .before .before .before .before .pre .2 in omega (arith, right-place (g .ready) e (g .there) h)
+mul-apply-4 c =
+    let pre = c .before .before .before .before .pre in
+    let args = c .before .before .before .before .args in
+    let g = pre .0 in
+    let e = args .e in
+    let h = pre .2 in
+    omega (arith, right-place (g .ready) e (g .there) h)
 
 element-copy-out-apply-3 : tie.Need-element-copy-out-apply-3
-element-copy-out-apply-3 c = let g = c .before .before .before .before .pre .0 in let e = c .before .before .before .before .args .e in let h = c .before .before .before .before .pre .2 in omega (arith, right-place (g .ready) e (g .there) h)
+element-copy-out-apply-3 c =
+    let pre = c .before .before .before .before .pre in
+    let args = c .before .before .before .before .args in
+    let g = pre .0 in
+    let e = args .e in
+    let h = pre .2 in
+    omega (arith, right-place (g .ready) e (g .there) h)
 
 apply-requires : tie.Need-apply-requires
-apply-requires c κs = let g = c .before .before .before .before .before .pre .0 in let e = c .before .before .before .before .before .args .e in let h = c .before .before .before .before .before .pre .2 in flat-asks (g .ready) e (g .there) h (c .before .before .before .before .before .pre .1)
+apply-requires c κs =
+    let pre = c .before .before .before .before .before .pre in
+    let args = c .before .before .before .before .before .args in
+    let g = pre .0 in
+    let e = args .e in
+    let h = pre .2 in
+    flat-asks (g .ready) e (g .there) h (pre .1)
 
 returns : tie.Need-returns
-returns c = λ r p a there. flat-value a (c .before .before .before .before .before .before .args .e) there (c .before .before .before .before .before .before .pre .2) (c .apply .ensures)
+returns c =
+    let args = c .before .before .before .before .before .before .args in
+    let pre = c .before .before .before .before .before .before .pre in
+    let apply = c .apply in
+    λ r p a there. flat-value a (args .e) there (pre .2) (apply .ensures)
 
 pub flat-spec : {M : Type 1} → statement M
 flat-spec =

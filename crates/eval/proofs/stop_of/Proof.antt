@@ -52,7 +52,12 @@ returns-6 : tie.Need-returns-6
 returns-6 c = first (c .before .before .args .x - 9223372036854775808) (c .if1 .taken)
 
 returns-7 : tie.Need-returns-7
-returns-7 c = last _ (none-of (c .before .before .args .x - 9223372036854775808) (c .if1 .left) (c .before .match .rest .0 .0 .0 .0 .1) (c .before .match .rest .0 .0 .0 .1) (c .before .match .rest .0 .0 .1) (c .before .match .rest .0 .1) (c .before .match .rest .1))
+returns-7 c =
+    let args = c .before .before .args in
+    let match = c .before .match in
+    let if1 = c .if1 in
+    last _ (none-of (args .x - 9223372036854775808) (if1 .left) (match .rest .0 .0 .0 .0 .1) (match .rest .0 .0 .0 .1) (match .rest .0 .0 .1)
+    (match .rest .0 .1) (match .rest .1))
 
 pub stop-of-spec : {M : Type 1} → statement M
 stop-of-spec =

@@ -25,7 +25,11 @@ same-length : tie.Need-same-length
 same-length c = search needs
 
 returns : tie.Need-returns
-returns c = rw (judged-refused _ _ _ _ _ (sym (c .before .before .before .before .check .ensures) ∙ c .before .before .c .given .1)) (record { outcome-is = c .refuse .ensures; memory-is = refl; room-is = refl })
+returns c =
+    let check = c .before .before .before .before .check in
+    let told = c .before .before .c in
+    let refuse = c .refuse in
+    rw (judged-refused _ _ _ _ _ (sym (check .ensures) ∙ told .given .1)) (record { outcome-is = refuse .ensures; memory-is = refl; room-is = refl })
 
 same-length-2 : tie.Need-same-length-2
 same-length-2 c = search needs
@@ -34,7 +38,11 @@ same-length-3 : tie.Need-same-length-3
 same-length-3 c = search needs
 
 returns-2 : tie.Need-returns-2
-returns-2 c = rw (judged-ran _ _ _ _ _ (sym (c .before .before .before .before .before .before .before .before .before .check .ensures) ∙ c .before .before .before .before .before .before .before .enum-told .given .1)) (c .before .before .before .before .run-accepted .ensures)
+returns-2 c =
+    let check = c .before .before .before .before .before .before .before .before .before .check in
+    let told = c .before .before .before .before .before .before .before .enum-told in
+    let run-accepted = c .before .before .before .before .run-accepted in
+    rw (judged-ran _ _ _ _ _ (sym (check .ensures) ∙ told .given .1)) (run-accepted .ensures)
 
 pub judge-spec : {M : Type 1} → statement M
 judge-spec =

@@ -33,8 +33,7 @@ kind-at-requires c κs =
     let pre = c .before .pre in
     let args = c .before .args in (
       omega (arith, pre .limited, pre .ready .recipe .counts .some-stmt, pre .ready .recipe .counts .few-stmts),
-      omega
-          (arith, kind-low (pre .ready) (args .limit - 1) (omega (arith, pre .limited, pre .ready .recipe .counts .some-stmt))),
+      omega (arith, kind-low (pre .ready) (args .limit - 1) (omega (arith, pre .limited, pre .ready .recipe .counts .some-stmt))),
     )
 
 loop-holds : tie.Need-loop-holds Inv-loop μ-loop
@@ -523,8 +522,7 @@ kind-at-requires-2 c κs =
     let parts = names g more (omega arith) (match .keys4) in
     let low = there g more (omega arith) (match .keys4) in (
       omega (arith, named6 .ensures, parts .0, low, g .ready .recipe .counts .few-stmts),
-      omega
-          (arith, kind-low (g .ready) (named6 .result) (rw (named6 .ensures) (lower low (parts .0)))),
+      omega (arith, kind-low (g .ready) (named6 .result) (rw (named6 .ensures) (lower low (parts .0)))),
     )
 
 loop-less-4 : tie.Need-loop-less-4 Inv-loop μ-loop
@@ -717,8 +715,7 @@ kind-at-requires-3 c κs =
     let parts = names g more (omega arith) (match .keys5) in
     let low = there g more (omega arith) (match .keys5) in (
       omega (arith, named8 .ensures, parts .2, low, g .ready .recipe .counts .few-stmts),
-      omega
-          (arith, kind-low (g .ready) (named8 .result) (rw (named8 .ensures) (lower low (parts .2)))),
+      omega (arith, kind-low (g .ready) (named8 .result) (rw (named8 .ensures) (lower low (parts .2)))),
     )
 
 loop-less-5 : tie.Need-loop-less-5 Inv-loop μ-loop
@@ -774,8 +771,7 @@ kind-at-requires-4 c κs =
     let parts = names g more (omega arith) (match .keys5) in
     let low = there g more (omega arith) (match .keys5) in (
       omega (arith, named9 .ensures, parts .1, low, g .ready .recipe .counts .few-stmts),
-      omega
-          (arith, kind-low (g .ready) (named9 .result) (rw (named9 .ensures) (lower low (parts .1)))),
+      omega (arith, kind-low (g .ready) (named9 .result) (rw (named9 .ensures) (lower low (parts .1)))),
     )
 
 loop-less-6 : tie.Need-loop-less-6 Inv-loop μ-loop
@@ -1030,8 +1026,7 @@ kind-at-requires-5 c κs =
     let parts = names g more (omega arith) (match .keys6) in
     let low = there g more (omega arith) (match .keys6) in (
       omega (arith, named11 .ensures, parts .1, low, g .ready .recipe .counts .few-stmts),
-      omega
-          (arith, kind-low (g .ready) (named11 .result) (rw (named11 .ensures) (lower low (parts .1)))),
+      omega (arith, kind-low (g .ready) (named11 .result) (rw (named11 .ensures) (lower low (parts .1)))),
     )
 
 loop-less-8 : tie.Need-loop-less-8 Inv-loop μ-loop
@@ -1349,8 +1344,7 @@ kind-at-requires-6 c κs =
     let match = c .match in
     let g = loop .inv (pre .recipe) (pre .policy) (pre .ready) (pre .limited) in (
       omega (arith, next-there g more (match .keys8), g .ready .recipe .counts .few-stmts),
-      omega
-          (arith, kind-low (g .ready) _ (next-there g more (match .keys8))),
+      omega (arith, kind-low (g .ready) _ (next-there g more (match .keys8))),
     )
 
 loop-less-10 : tie.Need-loop-less-10 Inv-loop μ-loop
@@ -1600,8 +1594,7 @@ kind-at-requires-7 c κs =
     let g = loop .inv (pre .recipe) (pre .policy) (pre .ready) (pre .limited) in
     let parts = loop-names g more (match .keys10) in (
       omega (arith, named15 .ensures, parts .1, (loop-there g more (match .keys10)), g .ready .recipe .counts .few-stmts),
-      omega
-          (arith, kind-low (g .ready) (named15 .result) (rw (named15 .ensures) (lower (loop-there g more (match .keys10)) (parts .1)))),
+      omega (arith, kind-low (g .ready) (named15 .result) (rw (named15 .ensures) (lower (loop-there g more (match .keys10)) (parts .1)))),
     )
 
 loop-less-13 : tie.Need-loop-less-13 Inv-loop μ-loop

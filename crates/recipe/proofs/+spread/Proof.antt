@@ -106,19 +106,22 @@ spread-returns-2 t c = spread-is (c .before .before .before .before .pre .1) (sy
 spread-returns-3 : (t : ℕ) → spread-lts.Need-returns-3 (claims t) (spread-at t) spread.Post
 unfolding spreadBy
 spread-returns-3 t c =
-    let e = spread-is (c .before .before .before .before .before .before .pre .1) (sym (c .before .before .x .given .1) ∙ c .before .before .before .before .expr-at .ensures) in
+    let e = spread-is (c .before .before .before .before .before .before .pre .1)
+    (sym (c .before .before .x .given .1) ∙ c .before .before .before .before .expr-at .ensures) in
     rw (c .spread .ensures) e
 
 spread-returns-4 : (t : ℕ) → spread-lts.Need-returns-4 (claims t) (spread-at t) spread.Post
 unfolding spreadBy
 spread-returns-4 t c =
-    let e = spread-is (c .before .before .before .before .before .before .pre .1) (sym (c .before .before .x2 .given .1) ∙ c .before .before .before .before .expr-at .ensures) in
+    let e = spread-is (c .before .before .before .before .before .before .pre .1)
+    (sym (c .before .before .x2 .given .1) ∙ c .before .before .before .before .expr-at .ensures) in
     rw (c .spread2 .ensures) e
 
 spread-returns-5 : (t : ℕ) → spread-lts.Need-returns-5 (claims t) (spread-at t) spread.Post
 unfolding spreadBy
 spread-returns-5 t c =
-    let e = spread-is (c .before .before .before .before .before .before .before .pre .1) (sym (c .before .before .before .x3 .given .1) ∙ c .before .before .before .before .before .expr-at .ensures) in
+    let e = spread-is (c .before .before .before .before .before .before .before .pre .1)
+    (sym (c .before .before .before .x3 .given .1) ∙ c .before .before .before .before .before .expr-at .ensures) in
     rw (c .before .spread3 .ensures, c .spread4 .ensures) e
 
 spread-returns-6 : (t : ℕ) → spread-lts.Need-returns-6 (claims t) (spread-at t) spread.Post

@@ -36,19 +36,28 @@ expr-ok-requires c κs = tt
 
 returns : tie.Need-returns Inv-loop μ-loop
 returns c =
-    let ok = denied (rw (c .before .before .before .before .before .half-at2 .ensures .0, c .before .before .expr-at .ensures) at (c .before .expr-ok .ensures)) (c .if1 .taken) in
+    let ok = denied (rw (c .before .before .before .before .before .half-at2 .ensures .0, c .before .before .expr-at .ensures) at
+    (c .before .expr-ok .ensures)) (c .if1 .taken) in
     sym (up-stops _ _ _ (omega arith) (c .before .before .before .before .loop .inv .1) (stops _ (fails _ ok)))
 
 spread-requires : tie.Need-spread-requires Inv-loop μ-loop
 spread-requires c κs =
-    let ok = held (rw (c .before .before .before .before .before .half-at2 .ensures .0, c .before .before .expr-at .ensures) at (c .before .expr-ok .ensures)) (c .if1 .left) in
+    let ok = held (rw (c .before .before .before .before .before .half-at2 .ensures .0, c .before .before .expr-at .ensures) at
+    (c .before .expr-ok .ensures)) (c .if1 .left) in
     reached _ _ (omega arith) (c .before .before .before .before .loop .inv .1) ok
 
 returns-2 : tie.Need-returns-2 Inv-loop μ-loop
 returns-2 c =
-    let ok = held (rw (c .before .before .before .before .before .before .before .half-at2 .ensures .0, c .before .before .before .before .expr-at .ensures) at (c .before .before .before .expr-ok .ensures)) (c .before .before .if1 .left) in
-    let wide = lt-leb _ _ (rw (c .before .spread .ensures) at (c .if2 .taken)) in
-    sym (up-stops _ _ _ (omega arith) (c .before .before .before .before .before .before .loop .inv .1) (next _ (passes _ ok) ∙ fails _ wide))
+    let half-at2 = c .before .before .before .before .before .before .before .half-at2 in
+    let loop = c .before .before .before .before .before .before .loop in
+    let expr-at = c .before .before .before .before .expr-at in
+    let expr-ok = c .before .before .before .expr-ok in
+    let if1 = c .before .before .if1 in
+    let spread = c .before .spread in
+    let if2 = c .if2 in
+    let ok = held (rw (half-at2 .ensures .0, expr-at .ensures) at (expr-ok .ensures)) (if1 .left) in
+    let wide = lt-leb _ _ (rw (spread .ensures) at (if2 .taken)) in
+    sym (up-stops _ _ _ (omega arith) (loop .inv .1) (next _ (passes _ ok) ∙ fails _ wide))
 
 add-e : tie.Need-add-e Inv-loop μ-loop
 add-e c = omega arith
@@ -58,9 +67,16 @@ loop-less c = omega arith
 
 loop-again : tie.Need-loop-again Inv-loop μ-loop
 loop-again c =
-    let ok = held (rw (c .before .before .before .before .before .before .before .half-at2 .ensures .0, c .before .before .before .before .expr-at .ensures) at (c .before .before .before .expr-ok .ensures)) (c .before .before .if1 .left) in
-    let narrow = le-leb _ _ (rw (c .before .spread .ensures) at (c .if2 .left)) in
-    (omega arith, up-more _ _ (c .before .before .before .before .before .before .loop .inv .1) (both-pass (passes _ ok) (passes _ narrow)))
+    let half-at2 = c .before .before .before .before .before .before .before .half-at2 in
+    let loop = c .before .before .before .before .before .before .loop in
+    let expr-at = c .before .before .before .before .expr-at in
+    let expr-ok = c .before .before .before .expr-ok in
+    let if1 = c .before .before .if1 in
+    let spread = c .before .spread in
+    let if2 = c .if2 in
+    let ok = held (rw (half-at2 .ensures .0, expr-at .ensures) at (expr-ok .ensures)) (if1 .left) in
+    let narrow = le-leb _ _ (rw (spread .ensures) at (if2 .left)) in
+    (omega arith, up-more _ _ (loop .inv .1) (both-pass (passes _ ok) (passes _ narrow)))
 
 returns-3 : tie.Need-returns-3 Inv-loop μ-loop
 returns-3 c = finished _ _ _ (c .before .loop .inv .1) (omega arith) (omega arith)

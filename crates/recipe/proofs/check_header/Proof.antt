@@ -36,7 +36,8 @@ counts-ok-requires c κs = search needs
 
 returns-5 : tie.Need-returns-5
 returns-5 c =
-    let mark = held (c .before .before .before .before .before .before .before .mark-ok .ensures) (c .before .before .before .before .before .before .if2 .left) in
+    let mark = held (c .before .before .before .before .before .before .before .mark-ok .ensures)
+    (c .before .before .before .before .before .before .if2 .left) in
     let zeros = held (c .before .before .before .zeros-ok .ensures) (c .before .before .if4 .left) in
     no-counts _ (omega arith) mark (omega arith) zeros (denied (c .before .counts-ok .ensures) (c .if5 .taken))
 
@@ -60,14 +61,16 @@ add-if6-2 c = search needs
 
 returns-6 : tie.Need-returns-6
 returns-6 c =
-    let mark = held (c .before .before .before .before .before .before .before .before .before .before .mark-ok .ensures) (c .before .before .before .before .before .before .before .before .before .if2 .left) in
+    let mark = held (c .before .before .before .before .before .before .before .before .before .before .mark-ok .ensures)
+    (c .before .before .before .before .before .before .before .before .before .if2 .left) in
     let zeros = held (c .before .before .before .before .before .before .zeros-ok .ensures) (c .before .before .before .before .before .if4 .left) in
     let counts = held (c .before .before .before .before .counts-ok .ensures) (c .before .before .before .if5 .left) in
     no-length _ (omega arith) mark (omega arith) zeros counts (λ h. omega arith)
 
 returns-7 : tie.Need-returns-7
 returns-7 c =
-    let mark = held (c .before .before .before .before .before .before .before .before .before .before .mark-ok .ensures) (c .before .before .before .before .before .before .before .before .before .if2 .left) in
+    let mark = held (c .before .before .before .before .before .before .before .before .before .before .mark-ok .ensures)
+    (c .before .before .before .before .before .before .before .before .before .if2 .left) in
     let zeros = held (c .before .before .before .before .before .before .zeros-ok .ensures) (c .before .before .before .before .before .if4 .left) in
     let counts = held (c .before .before .before .before .counts-ok .ensures) (c .before .before .before .if5 .left) in
     header _ (omega arith) mark (omega arith) zeros counts (omega arith)

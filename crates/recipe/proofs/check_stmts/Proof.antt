@@ -37,8 +37,14 @@ stmt-ok-requires c κs = tt
 
 returns : tie.Need-returns Inv-loop μ-loop
 returns c =
-    let ok = denied (rw (c .before .before .before .before .before .half-at3 .ensures .0, c .before .before .before .before .before .before .before .half-at .ensures .0, c .before .before .stmt-at .ensures) at (c .before .stmt-ok .ensures)) (c .if1 .taken) in
-    sym (up-stops _ _ _ (omega arith) (c .before .before .before .before .loop .inv .1) (fails _ ok))
+    let half-at = c .before .before .before .before .before .before .before .half-at in
+    let half-at3 = c .before .before .before .before .before .half-at3 in
+    let loop = c .before .before .before .before .loop in
+    let stmt-at = c .before .before .stmt-at in
+    let stmt-ok = c .before .stmt-ok in
+    let if1 = c .if1 in
+    let ok = denied (rw (half-at3 .ensures .0, half-at .ensures .0, stmt-at .ensures) at (stmt-ok .ensures)) (if1 .taken) in
+    sym (up-stops _ _ _ (omega arith) (loop .inv .1) (fails _ ok))
 
 add-s : tie.Need-add-s Inv-loop μ-loop
 add-s c = omega arith
@@ -48,8 +54,14 @@ loop-less c = omega arith
 
 loop-again : tie.Need-loop-again Inv-loop μ-loop
 loop-again c =
-    let ok = held (rw (c .before .before .before .before .before .half-at3 .ensures .0, c .before .before .before .before .before .before .before .half-at .ensures .0, c .before .before .stmt-at .ensures) at (c .before .stmt-ok .ensures)) (c .if1 .left) in
-    (omega arith, up-more _ _ (c .before .before .before .before .loop .inv .1) (passes _ ok))
+    let half-at = c .before .before .before .before .before .before .before .half-at in
+    let half-at3 = c .before .before .before .before .before .half-at3 in
+    let loop = c .before .before .before .before .loop in
+    let stmt-at = c .before .before .stmt-at in
+    let stmt-ok = c .before .stmt-ok in
+    let if1 = c .if1 in
+    let ok = held (rw (half-at3 .ensures .0, half-at .ensures .0, stmt-at .ensures) at (stmt-ok .ensures)) (if1 .left) in
+    (omega arith, up-more _ _ (loop .inv .1) (passes _ ok))
 
 returns-2 : tie.Need-returns-2 Inv-loop μ-loop
 returns-2 c = finished _ _ _ (c .before .loop .inv .1) (omega arith) (omega arith)

@@ -51,7 +51,13 @@ stmt-of-requires c κs = search needs
 
 returns : tie.Need-returns
 unfolding stmt
-returns c = rw (c .stmt-of .ensures, c .before .before .before .before .before .half-at2 .ensures .0, c .before .before .before .before .half-at3 .ensures .0, c .before .before .before .half-at4 .ensures .0, c .before .before .before .before .before .before .half-at .ensures .0)
+returns c =
+    let half-at = c .before .before .before .before .before .before .half-at in
+    let half-at2 = c .before .before .before .before .before .half-at2 in
+    let half-at3 = c .before .before .before .before .half-at3 in
+    let half-at4 = c .before .before .before .half-at4 in
+    let stmt-of = c .stmt-of in
+    rw (stmt-of .ensures, half-at2 .ensures .0, half-at3 .ensures .0, half-at4 .ensures .0, half-at .ensures .0)
 
 pub stmt-at-spec : {M : Type 1} → statement M
 stmt-at-spec =

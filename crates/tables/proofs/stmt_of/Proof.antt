@@ -46,7 +46,13 @@ stmt-if-requires-8 c κs = search needs
 returns : tie.Need-returns
 unfolding stmtOf
 returns c =
-    rw (c .before .before .before .match .keys1, c .stmt-if2 .ensures, c .before .stmt-if .ensures, c .before .before .zeros2 .ensures, c .before .before .before .before .zeros .ensures, c .before .before .before .before .before .wide .ensures .0)
+    let wide = c .before .before .before .before .before .wide in
+    let zeros = c .before .before .before .before .zeros in
+    let match = c .before .before .before .match in
+    let zeros2 = c .before .before .zeros2 in
+    let stmt-if = c .before .stmt-if in
+    let stmt-if2 = c .stmt-if2 in
+    rw (match .keys1, stmt-if2 .ensures, stmt-if .ensures, zeros2 .ensures, zeros .ensures, wide .ensures .0)
     (all-unused _ _ _ _ _)
 
 returns-2 : tie.Need-returns-2

@@ -33,7 +33,16 @@ same-length c = search needs
 
 returns : tie.Need-returns
 unfolding reportBytes
-returns c = rw (c .before .before .put-word2 .ensures, c .before .before .before .before .before .before .put-word .ensures, c .before .before .before .before .before .before .before .before .before .before .put-half2 .ensures, c .before .before .before .before .before .before .before .before .before .before .before .before .before .before .before .put-half .ensures, c .before .before .before .before .before .before .before .before .before .before .before .end-place .ensures, c .before .before .before .before .before .before .before .before .before .before .before .before .before .before .before .before .end-number .ensures) (report-written (c .before .before .before .before .before .before .before .before .before .before .before .before .before .before .before .before .before .before .before .args .report .now) (endNumber (c .before .before .before .before .before .before .before .before .before .before .before .before .before .before .before .before .before .before .before .args .o .end)) (endPlace (c .before .before .before .before .before .before .before .before .before .before .before .before .before .before .before .before .before .before .before .args .o .end)) (c .before .before .before .before .before .before .before .before .before .before .before .before .before .before .before .before .before .before .before .args .o .steps) (c .before .before .before .before .before .before .before .before .before .before .before .before .before .before .before .before .before .before .before .args .o .records) (omega arith))
+returns c =
+    let args = c .before .before .before .before .before .before .before .before .before .before .before .before .before .before .before .before .before .before .before .args in
+    let end-number = c .before .before .before .before .before .before .before .before .before .before .before .before .before .before .before .before .end-number in
+    let put-half = c .before .before .before .before .before .before .before .before .before .before .before .before .before .before .before .put-half in
+    let end-place = c .before .before .before .before .before .before .before .before .before .before .before .end-place in
+    let put-half2 = c .before .before .before .before .before .before .before .before .before .before .put-half2 in
+    let put-word = c .before .before .before .before .before .before .put-word in
+    let put-word2 = c .before .before .put-word2 in
+    rw (put-word2 .ensures, put-word .ensures, put-half2 .ensures, put-half .ensures, end-place .ensures, end-number .ensures)
+    (report-written (args .report .now) (endNumber (args .o .end)) (endPlace (args .o .end)) (args .o .steps) (args .o .records) (omega arith))
 
 pub put-report-spec : {M : Type 1} → statement M
 put-report-spec =

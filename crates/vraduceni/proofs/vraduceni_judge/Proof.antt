@@ -15,7 +15,15 @@ judge-requires : tie.Need-judge-requires
 judge-requires c κs = search needs
 
 put-report-requires : tie.Need-put-report-requires
-put-report-requires c κs = let f = fits _ _ _ _ (c .before .before .before .before .before .before .before .before .before .before .before .before .before .before .before .args .report .now) _ (rw (c .before .before .before .before .before .before .host-budget .ensures) at (c .before .before .before .before .before .judge .ensures)) (λ i. c .before .before .before .before .before .before .before .before .before .before .before .before .before .before .shared-slice-known .given i .fits) (λ i. c .before .before .before .before .before .before .before .before .before .before .before .before .slice-known .given i .fits) in (omega arith, f .0, f .1)
+put-report-requires c κs =
+    let args = c .before .before .before .before .before .before .before .before .before .before .before .before .before .before .before .args in
+    let shared-slice-known = c .before .before .before .before .before .before .before .before .before .before .before .before .before .before .shared-slice-known in
+    let slice-known = c .before .before .before .before .before .before .before .before .before .before .before .before .slice-known in
+    let host-budget = c .before .before .before .before .before .before .host-budget in
+    let judge = c .before .before .before .before .before .judge in
+    let f = fits _ _ _ _ (args .report .now) _ (rw (host-budget .ensures) at (judge .ensures)) (λ i. shared-slice-known .given i .fits)
+    (λ i. slice-known .given i .fits) in
+    (omega arith, f .0, f .1)
 
 end-number-requires : tie.Need-end-number-requires
 end-number-requires c κs = search needs
@@ -30,7 +38,12 @@ same-length-3 : tie.Need-same-length-3
 same-length-3 c = search needs
 
 returns-2 : tie.Need-returns-2
-returns-2 c = reports _ _ _ _ _ _ (rw (c .before .before .before .before .before .before .before .before .before .before .host-budget .ensures) at (c .before .before .before .before .before .before .before .before .before .judge .ensures)) (omega arith) (c .end-number .ensures) (c .before .before .before .put-report .ensures)
+returns-2 c =
+    let host-budget = c .before .before .before .before .before .before .before .before .before .before .host-budget in
+    let judge = c .before .before .before .before .before .before .before .before .before .judge in
+    let put-report = c .before .before .before .put-report in
+    let end-number = c .end-number in
+    reports _ _ _ _ _ _ (rw (host-budget .ensures) at (judge .ensures)) (omega arith) (end-number .ensures) (put-report .ensures)
 
 pub vraduceni-judge-spec : {M : Type 1} → statement M
 vraduceni-judge-spec =
