@@ -239,7 +239,7 @@ fn load_constants(r: &[u8], u: &mut [u64])
 
 pub fn load(r: &[u8], m: &[u8], u: &mut [u64; 2112])
     requires { ⌜ WellFormed (now r) × (length (now m) ≡ 5 * count (recipeOf (now r))) ⌝ }
-    ensures { λ _. ⌜ (heldIn (recipeOf (now (r .entry))) (now (u .exit)) ≡ placesOf (recipeOf (now (r .entry))) (now (m .entry))) × ((e : ℕ) → e < recipeOf (now (r .entry)) .exprs → ConstantAs (now (u .exit)) e (recipeOf (now (r .entry)) .exprAt e)) × (length (now (u .exit)) ≡ 2112) ⌝ }
+    ensures { λ _. ⌜ (heldIn (recipeOf (now (r .entry))) (now (u .exit)) ≡ placesOf (recipeOf (now (r .entry))) (now (m .entry))) × ConstantsAs (now (r .entry)) (recipeOf (now (r .entry)) .exprs) (now (u .exit)) × (length (now (u .exit)) ≡ 2112) ⌝ }
 {
     let vars = tables::half_at(r, 10);
     let cells = tables::half_at(r, 12);

@@ -29,3 +29,7 @@ pub record RunGiven (t u : List ℕ) (limit : ℕ) : Type 0 where
 pub record RunAs (r p t u₀ q₀ : List ℕ) (budget : ℕ) (o : Outcome) (u q : List ℕ) : Type 0 where
   pub left : LeftAs o (placeBytes (heldIn (recipeOf r) u)) q (writtenBack q₀ (run (policyOf p) (recipeOf r) (length q₀) budget 0 (start (recipeOf r) (heldIn (recipeOf r) u₀))))
   pub ready : Ready r p t u
+
+-- and that for all accepted tables that t and u₀ hold
+abbrev pub RunLeaves : (t u₀ : List ℕ) (limit : ℕ) (q₀ : List ℕ) (budget : ℕ) (o : Outcome) (u q : List ℕ) → Type 0
+RunLeaves t u₀ limit q₀ budget o u q = (r p : List ℕ) → Ready r p t u₀ → limit ≡ recipeOf r .stmts → RunAs r p t u₀ q₀ budget o u q

@@ -1,13 +1,10 @@
 // The run of accepted tables, and the library's entry, which checks everything and runs.
 ghost use mathlib.Core.Path.{_≡_};
-ghost use mathlib.Core.List.{List};
-ghost use Prim.Native.Nat.{ℕ, _+_, _*_, _/_, _%_, _<_};
+ghost use Prim.Native.Nat.{_+_, _*_, _/_, _%_, _<_};
 ghost use lib.ListN.{length, getD};
-ghost use Rattle.rules.specs.Recipe.{recipeOf};
 ghost use Rattle.rules.specs.Judged.{outcomeOf, writtenBack, ran, checks, judged};
 ghost use Rattle.rules.specs.Accepted.{Accepted};
-ghost use Rattle.layout.specs.Places.{Ready};
-ghost use Rattle.machine.specs.Turns.{LeftAs, RunGiven, RunAs};
+ghost use Rattle.machine.specs.Turns.{LeftAs, RunGiven, RunLeaves};
 use rules::Checked;
 use rules::End;
 use rules::Outcome;
@@ -83,7 +80,7 @@ fn stopped(h: Stop, s: usize, steps: u32, records: u32) -> Outcome
 // that kind, which names s, is taken. No arm goes back to the top by itself: with one way back the compiler keeps one loop.
 fn run(t: &[u16; 8466], u: &mut [u64; 2112], limit: usize, q: &mut [u8], budget: u32) -> Outcome
     requires { ⌜ RunGiven (now t) (now u) limit ⌝ }
-    ensures { λ o. ⌜ ((r p : List ℕ) → Ready r p (now (t .entry)) (now (u .entry)) → limit ≡ recipeOf r .stmts → RunAs r p (now (t .entry)) (now (u .entry)) (now (q .entry)) budget o (now (u .exit)) (now (q .exit))) ⌝ }
+    ensures { λ o. ⌜ RunLeaves (now (t .entry)) (now (u .entry)) limit (now (q .entry)) budget o (now (u .exit)) (now (q .exit)) ⌝ }
 {
     let mut x = State {
         stack: [EMPTY; 513],
