@@ -27,7 +27,8 @@ pub record RunGiven (t u : List ℕ) (limit : ℕ) : Type 0 where
 
 -- the run of r under p from the places in u₀ leaves the places in u
 pub record RunAs (r p t u₀ q₀ : List ℕ) (budget : ℕ) (o : Outcome) (u q : List ℕ) : Type 0 where
-  pub left : LeftAs o (placeBytes (heldIn (recipeOf r) u)) q (writtenBack q₀ (run (policyOf p) (recipeOf r) (length q₀) budget 0 (start (recipeOf r) (heldIn (recipeOf r) u₀))))
+  pub left : LeftAs o (placeBytes (heldIn (recipeOf r) u)) q
+      (writtenBack q₀ (run (policyOf p) (recipeOf r) (length q₀) budget 0 (start (recipeOf r) (heldIn (recipeOf r) u₀))))
   pub ready : Ready r p t u
 
 -- and that for all accepted tables that t and u₀ hold
