@@ -9,7 +9,8 @@ ghost use Rattle.layout.specs.Answers.{stopFrom};
 ghost use Rattle.eval.specs.Packed.{tagIn, cellIn, appliedIn, CellAsked, Applies};
 use rules::Stop;
 
-const FAULT: u64 = 9223372036854775808;
+// From here on an answer is a fault, whose number is counted from here.
+pub const FAULT: u64 = 9223372036854775808;
 
 // ---- answers
 

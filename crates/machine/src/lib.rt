@@ -5,13 +5,12 @@ ghost use lib.ListN.{length, getD};
 ghost use Rattle.rules.specs.Judged.{outcomeOf, writtenBack, ran, checks, judged};
 ghost use Rattle.rules.specs.Accepted.{Accepted};
 ghost use Rattle.machine.specs.Turns.{LeftAs, RunGiven, RunLeaves};
+use eval::FAULT;
 use rules::Checked;
 use rules::End;
 use rules::Outcome;
 use rules::Refusal;
 use rules::Stop;
-
-const FAULT: u64 = 9223372036854775808;
 
 // The kinds of frames, beside the statements' kinds 0 to 6.
 const NEXT: u32 = 7;

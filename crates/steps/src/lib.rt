@@ -5,8 +5,7 @@ ghost use Prim.Native.Nat.{_+_, _*_, _/_, _<_};
 ghost use lib.ListN.{getD, set};
 ghost use Rattle.layout.specs.Tables.{joinIn};
 ghost use Rattle.steps.specs.Asks.{Assigned, Stored, StoredAt, mayEmit, AssignGiven, StoreGiven, CellGiven};
-
-const FAULT: u64 = 9223372036854775808;
+use eval::FAULT;
 
 fn put_place(u: &mut [u64; 2112], i: usize, w: u32, g: u32)
     requires { ⌜ i < 2112 ⌝ }
