@@ -187,8 +187,7 @@ assign-requires c κs =
       policy = pre .policy;
       ready = g .ready;
       branch = g .standing .branch;
-      there = rw (named2 .ensures)
-          (parts .0);
+      there = rw (named2 .ensures) (parts .0);
       tagged = tagged;
     }
 
@@ -330,8 +329,7 @@ store-requires c κs =
       policy = pre .policy;
       ready = g .ready;
       branch = g .standing .branch;
-      index = rw (named3 .ensures)
-          (parts .0);
+      index = rw (named3 .ensures) (parts .0);
       value = rw (named4 .ensures) (parts .1);
     }
 

@@ -26,8 +26,7 @@ run-requires c κs =
     record {
       recipe = _;
       policy = _;
-      ready = (loaded _ pre (load .ensures .0) (λ i. shared-slice-known .given i .fits) (decode .ensures)
-          (load .ensures .1));
+      ready = loaded _ pre (load .ensures .0) (λ i. shared-slice-known .given i .fits) (decode .ensures) (load .ensures .1);
       limited = half-at .ensures .0;
       all-places = load .ensures .2;
     }
@@ -54,13 +53,14 @@ write-back-requires c κs =
     let half-at = c .before .before .before .before .before .before .before .before .half-at in
     let run = c .before .before .before .before .before .before .run in
     let half-at2 = c .before .before .half-at2 in
-    let half-at3 = c .before .half-at3 in (
+    let half-at3 = c .before .half-at3 in
+    let ready = loaded _ pre (load .ensures .0) (λ i. shared-slice-known .given i .fits) (decode .ensures) (load .ensures .1) in
+    let left = run .ensures _ _ ready (half-at .ensures .0) in (
       omega (arith, half-at2 .ensures .0, half-at3 .ensures .0, pre .recipe .counts .few-vars, pre .recipe .counts .few-cells),
       omega (arith, half-at2 .ensures .0, half-at3 .ensures .0, pre .memory .long),
       λ i h. omega (
         arith,
-        (run .ensures _ _ (loaded _ pre (load .ensures .0) (λ i. shared-slice-known .given i .fits) (decode .ensures) (load .ensures .1))
-            (half-at .ensures .0)) .ready .tags-below i (omega (arith, h, half-at2 .ensures .0, half-at3 .ensures .0)),
+        left .ready .tags-below i (omega (arith, h, half-at2 .ensures .0, half-at3 .ensures .0)),
         pre .policy .few-tags,
       ),
     )
@@ -82,8 +82,9 @@ returns c =
     let half-at2 = c .before .before .before .before .before .half-at2 in
     let half-at3 = c .before .before .before .before .half-at3 in
     let write-back = c .before .before .write-back in
-    left-back _ pre (load .ensures .0) (run .ensures _ _ (loaded _ pre (load .ensures .0) (λ i. shared-slice-known .given i .fits)
-    (decode .ensures) (load .ensures .1)) (half-at .ensures .0)) (omega (arith, half-at2 .ensures .0, half-at3 .ensures .0)) (write-back .ensures)
+    let ready = loaded _ pre (load .ensures .0) (λ i. shared-slice-known .given i .fits) (decode .ensures) (load .ensures .1) in
+    let left = run .ensures _ _ ready (half-at .ensures .0) in
+    left-back _ pre (load .ensures .0) left (omega (arith, half-at2 .ensures .0, half-at3 .ensures .0)) (write-back .ensures)
 
 pub run-accepted-spec : {M : Type 1} → statement M
 run-accepted-spec =
