@@ -1,4 +1,6 @@
 // Arithmetic on 32-bit words in two's complement, kept as u32.
+#![tactic(auto)]
+
 ghost use Rattle.std.specs.Prelude.{◌≡◌, ◌+◌, ◌%◌, ◌^◌, ◌<◌};
 ghost use Rattle.words.specs.Word.{truth, negated, denied, absolute, sum, difference, product, quotient, remainder, less, less_equal, equal, not_equal};
 
