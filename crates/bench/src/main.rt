@@ -1,4 +1,5 @@
 // The bench of document 01: its run-only examples, and directed ones, each run on the proved library and compared.
+#![tactic(auto)]
 mod case;
 mod faults;
 mod hosts;

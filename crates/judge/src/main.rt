@@ -1,4 +1,5 @@
 // The thin program: reads recipe.bin, policy.bin and memory.bin, runs them, and prints end, place, steps and records.
+#![tactic(auto)]
 ghost use Rattle.io.specs.Counts.{IsPrefixLen};
 
 use libc::STDOUT_FILENO;

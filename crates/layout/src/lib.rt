@@ -1,1 +1,2 @@
 // How the run holds accepted tables: definitions and laws only. No code.
+#![tactic(auto)]

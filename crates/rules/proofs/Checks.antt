@@ -1,7 +1,7 @@
 -- Laws of checks: what passes, and how a loop that goes upwards finds the first that fails. Assumes nothing.
 use Prim.Native.Nat.{ℕ, zero, suc, ◌+◌, ◌<◌}
 use native.Mathlib.Nat.{not-suc-le-zero}
-use native.Mathlib.Numerals.{add_one}
+use native.Mathlib.Numerals.{add-one}
 use native.Mathlib.Decide.{dec_lt}
 use native.Mathlib.Omega.{arith}
 use mathlib.Core.Path.{◌≡◌, refl, sym, ◌∙◌}
@@ -60,7 +60,7 @@ up_none f = refl
 -- one more that passes
 pub up_more : (i : ℕ) (f : ℕ → Checked) → up_to i f ≡ Passed → f i ≡ Passed → up_to (i + 1) f ≡ Passed
 unfolding up_to
-up_more i f e g = rw (add_one i) (both_pass e g)
+up_more i f e g = rw (add-one i) (both_pass e g)
 
 -- the first that fails decides
 pub up_stops : (n i : ℕ) (f : ℕ → Checked) {x : Refusal} → i < n → up_to i f ≡ Passed → f i ≡ Failed x → up_to n f ≡ Failed x

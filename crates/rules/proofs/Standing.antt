@@ -1,6 +1,6 @@
 -- What holds of every state that a run of accepted tables comes to: its tags are the policy's, its values are words, what it
 -- names is in the tables, and its records fit the room. Assumes nothing.
-use Prim.Native.Nat.{ℕ, zero, suc, ◌+◌, ◌-◌, ◌*◌, ◌^◌, ◌<◌, ◌≤◌}
+use Prim.Native.Nat.{ℕ, zero, suc, ◌+◌, ◌*◌, ◌^◌, ◌<◌, ◌≤◌}
 use native.Mathlib.Omega.{arith}
 use mathlib.Core.Path.{◌≡◌, refl, ap, ◌∙◌}
 use mathlib.Core.Bool.{Bool, true, false}
@@ -36,7 +36,7 @@ use Rattle.rules.specs.Operators.{unary, binary}
 use Rattle.rules.specs.Policy.{Policy}
 use Rattle.rules.specs.Recipe.{Recipe}
 use Rattle.rules.specs.Memory.{Memory, ◌#◌, value_of, tag_of, place_at, write, count, Record, out}
-use Rattle.rules.specs.Steps.{given, unary_of, binary_of, cell_of, value_by, value_within, eval, test, allow, assigns, stores, emits, chooses, loops, begins, loop_of, loop_in, tests, repeats, State, state, Turn, Goes, Halts, Finished, check, performs, takes, step}
+use Rattle.rules.specs.Steps.{given, unary_of, binary_of, cell_of, value_by, value_within, eval, allow, assigns, stores, emits, chooses, loops, begins, loop_of, loop_in, tests, repeats, State, state, Turn, Goes, Halts, Finished, check, performs, takes, step}
 use Rattle.rules.specs.Run.{Result, result, follow, run, start}
 use Rattle.rules.specs.Accepted.{StmtOk, Ordered}
 use Rattle.rules.proofs.Tests.{picked}

@@ -1,13 +1,14 @@
 // The data of document 01, which the definitions in specs/ and the code both speak of. No code.
+#![tactic(auto)]
 
-#[derive(Drop)]
+#[derive(Clone, Copy)]
 pub enum UnaryOp {
     Negate,
     Not,
     Absolute,
 }
 
-#[derive(Drop)]
+#[derive(Clone, Copy)]
 pub enum BinaryOp {
     Add,
     Sub,
@@ -21,7 +22,7 @@ pub enum BinaryOp {
 }
 
 // An expression record: operands by their numbers. BadExpr: no expression stands there.
-#[derive(Drop)]
+#[derive(Clone, Copy)]
 pub enum Expr {
     Constant(u32),
     Variable(usize),
@@ -32,7 +33,7 @@ pub enum Expr {
 }
 
 // A statement record: expressions and statements by their numbers. BadStmt: no statement stands there.
-#[derive(Drop)]
+#[derive(Clone, Copy)]
 pub enum Stmt {
     Skip,
     Assign(usize, usize),
@@ -45,14 +46,14 @@ pub enum Stmt {
 }
 
 // A value and its tag: a place of the memory, and what an expression gives.
-#[derive(Drop)]
+#[derive(Clone, Copy)]
 pub struct Place {
     pub value: u32,
     pub tag: u8,
 }
 
 // Why a run ends early.
-#[derive(Drop)]
+#[derive(Clone, Copy)]
 pub enum Stop {
     AssignTag,
     StoreTag,
@@ -64,13 +65,13 @@ pub enum Stop {
 }
 
 // Evaluation gives a value with its tag, or ends the run.
-#[derive(Drop)]
+#[derive(Clone, Copy)]
 pub enum Valued {
     Value(Place),
     Fault(Stop),
 }
 
-#[derive(Drop)]
+#[derive(Clone, Copy)]
 pub enum Frame {
     Next(usize),
     Join(u8),
@@ -78,7 +79,7 @@ pub enum Frame {
 }
 
 // The statement to begin, or none.
-#[derive(Drop)]
+#[derive(Clone, Copy)]
 pub enum Waiting {
     Begin(usize),
     Nothing,
@@ -86,7 +87,7 @@ pub enum Waiting {
 
 // What beginning a statement asks of the state: nothing; a frame, with the statement to begin and the branch tag after it;
 // a place written; a record; the end of the run.
-#[derive(Drop)]
+#[derive(Clone, Copy)]
 pub enum Act {
     Passes,
     Pushes(Frame, usize, u8),
@@ -96,7 +97,7 @@ pub enum Act {
 }
 
 // What a repeated test asks: the body again, with the branch tag; leaving the loop; the end of the run.
-#[derive(Drop)]
+#[derive(Clone, Copy)]
 pub enum Again {
     Repeats(usize, u8),
     Leaves,
@@ -104,7 +105,7 @@ pub enum Again {
 }
 
 // Why a recipe, a policy, a memory or a buffer is refused, with the place where there is one.
-#[derive(Drop)]
+#[derive(Clone, Copy)]
 pub enum Refusal {
     RecipeLength,
     RecipeMark,
@@ -124,14 +125,14 @@ pub enum Refusal {
 }
 
 // What a check finds.
-#[derive(Drop)]
+#[derive(Clone, Copy)]
 pub enum Checked {
     Passed,
     Failed(Refusal),
 }
 
 // How a run ends; early with the statement carried out.
-#[derive(Drop)]
+#[derive(Clone, Copy)]
 pub enum End {
     Done,
     Budget,
@@ -140,7 +141,7 @@ pub enum End {
 }
 
 // The result of a run: its end, and the two counts.
-#[derive(Drop)]
+#[derive(Clone, Copy)]
 pub struct Outcome {
     pub end: End,
     pub steps: u32,

@@ -1,4 +1,5 @@
 // Writing a place and the right to emit: what a statement asks of the places is done here, and what stands in its way is told.
+#![tactic(auto)]
 
 ghost use Rattle.std.specs.Prelude.{◌≡◌, ◌+◌, ◌*◌, ◌/◌, ◌<◌, get_or, set};
 ghost use Rattle.layout.specs.Tables.{join_in};

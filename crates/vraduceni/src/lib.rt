@@ -1,4 +1,5 @@
 // The C host's entries, the only exports: include/vraduceni.h declares them.
+#![tactic(auto)]
 ghost use Rattle.std.specs.Prelude.{◌≡◌, ◌<◌, ◌≤◌, ◌++◌, length, drop};
 ghost use Rattle.rules.specs.Ends.{end_number, end_place};
 ghost use Rattle.rules.specs.Judged.{host_budget, report_bytes, hosted, house_asked};
