@@ -1,5 +1,6 @@
 // Document 01's number and place for every end and refusal.
 #![tactic(auto)]
+
 ghost use Rattle.std.specs.Prelude.{◌≡◌};
 ghost use Rattle.rules.specs.Ends.{stop_number, refusal_number, refusal_place, end_number, end_place};
 

@@ -1,5 +1,6 @@
 // Little-endian numbers and the records of the recipe table, read from bytes.
 #![tactic(auto)]
+
 ghost use Rattle.std.specs.Prelude.{◌≡◌, ◌+◌, ◌*◌, ◌<◌, eqb, length};
 ghost use Rattle.rules.specs.Bytes.{half, whole};
 ghost use Rattle.rules.specs.Checks.{◌and◌};

@@ -1,0 +1,20 @@
+-- Document 01's table, case by case. Assumes nothing.
+use Rattle.rules.specs.Ends.{end_place}
+use borrow.Author.Rules.{rules}
+use Rattle.ends.proofs.end_place.Goals as goal
+
+pub returns-in-Done : goal.returns-in-Done
+unfolding end_place
+returns-in-Done c = rw c.in-Done.is
+
+pub returns-in-Budget : goal.returns-in-Budget
+unfolding end_place
+returns-in-Budget c = rw c.in-Budget.is
+
+pub returns-in-Stopped : goal.returns-in-Stopped
+unfolding end_place
+returns-in-Stopped c = rw c.in-Stopped.is
+
+pub returns-in-Refused : goal.returns-in-Refused
+unfolding end_place
+returns-in-Refused c = rw c.in-Refused.is c.refusal_place.ensures
