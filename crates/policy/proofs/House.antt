@@ -1,7 +1,7 @@
 -- The house policy: which of its three parts a byte stands in, and what the request leaves. Assumes nothing.
 use Prim.Native.Nat.{ℕ, ◌+◌, ◌-◌, ◌<◌, ◌≤◌}
 use native.Mathlib.Nat.{zero-add}
-use native.Mathlib.Numerals.{add_one}
+use native.Mathlib.Numerals.{add-one}
 use native.Mathlib.Omega.{arith}
 use mathlib.Core.Path.{◌≡◌, refl, ◌∙◌, ap}
 use mathlib.Core.List.{List, [], ◌∷◌, ◌++◌}
@@ -46,7 +46,7 @@ written b k = take k house_policy ++ drop k b
 
 pub written_more : (b : List ℕ) (k : ℕ) → 266 ≤ length b → k < 266 → set (written b k) k (get_or house_policy k 0) ≡ written b (k + 1)
 written_more b k long h =
-    rw add_one (simp zero-add at (paste-suc b 0 house_policy k 0 (omega arith) (omega (arith, house_length))))
+    rw add-one (simp zero-add at (paste-suc b 0 house_policy k 0 (omega arith) (omega (arith, house_length))))
 
 pub no_room : (b : List ℕ) → length b < 266 → house_asked b ≡ record { number = 29; buffer = b }
 unfolding house_asked housed refusal_number

@@ -1,5 +1,6 @@
 // Policies: the check of a table of tags, what an accepted one answers, and the house policy.
 #![tactic(auto)]
+
 ghost use Rattle.std.specs.Prelude.{◌≡◌, ◌+◌, ◌*◌, ◌<◌, ◌≤◌, get_or};
 ghost use Rattle.rules.specs.Bytes.{byte};
 ghost use Rattle.rules.specs.Checks.{up_to};

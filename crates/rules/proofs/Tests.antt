@@ -1,8 +1,7 @@
 -- Tests and what they say. Assumes nothing.
 use Prim.Native.Nat.{ℕ, zero, suc}
 use mathlib.Core.Path.{◌≡◌, refl, sym, ◌∙◌}
-use mathlib.Core.Bool.{Bool, true, false, not}
-use borrow.Author.Tests.{not-true, not-false}
+use mathlib.Core.Bool.{Bool, true, false}
 use Rattle.rules.specs.Checks.{◌and◌}
 use Rattle.rules.specs.Steps.{test}
 
@@ -26,11 +25,11 @@ fails true f = f refl
 fails false f = refl
 
 -- a function's answer b to the test t, where the code goes by `!b`
-pub denied : {b t : Bool} → b ≡ t → not b ≡ true → t ≡ false
-denied e h = sym e ∙ not-true _ h
+pub denied : {b t : Bool} → b ≡ t → b ≡ false → t ≡ false
+denied e h = sym e ∙ h
 
-pub held : {b t : Bool} → b ≡ t → not b ≡ false → t ≡ true
-held e h = sym e ∙ not-false _ h
+pub held : {b t : Bool} → b ≡ t → b ≡ true → t ≡ true
+held e h = sym e ∙ h
 
 -- what holds of both cases holds of the one that a value picks
 pub picked : {A : Type 0} (C : A → Type 0) (v : ℕ) {x y : A} → C x → C y → C (test v x y)

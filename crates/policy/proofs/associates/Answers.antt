@@ -1,0 +1,6 @@
+-- `policy::associates` meets its contract. Assumes nothing.
+use borrow.Author.Rules.{rules}
+use Rattle.policy.proofs.associates.Goals as goal
+
+pub returns : goal.returns
+returns c = cc

@@ -1,0 +1,17 @@
+use Prim.Native.Nat.{◌≤◌, ◌-◌}
+use native.Mathlib.Omega.{arith}
+use mathlib.Core.Path.{◌≡◌, sym}
+use Rattle.rules.specs.declared.Checked.TheVariants.{Passed}
+use Rattle.rules.specs.declared.Refusal.TheVariants.{BadPort}
+use Rattle.rules.specs.Checks.{require, up_to}
+use Rattle.rules.specs.Recipe.{recipe_of, port_ok, check_ports}
+use Rattle.rules.proofs.Checks.{passes, fails, up_none, up_more, up_stops}
+use Rattle.rules.proofs.Tests.{denied, held}
+use Rattle.recipe.proofs.Order.{finished}
+use Rattle.recipe.proofs.check_ports.Given as goal
+
+abbrev pub invariant-loop-s : goal.invariant-loop-s
+invariant-loop-s l = (l.s ≤ l.stmts) × (up_to l.s (λ i. require (port_ok l.ports ((recipe_of l.r).stmt_at i)) (BadPort i)) ≡ Passed)
+
+abbrev pub decreases-loop-s : goal.decreases-loop-s
+decreases-loop-s l = l.stmts - l.s
