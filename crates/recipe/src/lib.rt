@@ -1,6 +1,7 @@
 // The check of a recipe by itself (16 to 22), and of its ports against a policy (26).
 // Three tests are grouped `a && (b && c)`: so no two ways meet before the answer, and each keeps what it has tested.
 #![tactic(auto)]
+
 ghost use Rattle.std.specs.Prelude.{◌≡◌, ◌+◌, ◌*◌, ◌≤◌, length};
 ghost use Rattle.rules.specs.Checks.{up_to};
 ghost use Rattle.rules.specs.Recipe.{recipe_of, mark_ok, zeros_ok, counts_ok, expr_ok, spread, check_expr, stmt_ok, check_stmt, check_header, check_recipe, port_ok, check_ports};
