@@ -33,18 +33,18 @@ deep-overflow_cast-t t c =
     let pre = c.requires in
     let args = c.args in
     let fits = c.ranges in
-    let g = pre.1.0 in
+    let g = pre.0 in
     let e = args.e in
-    let h = pre.1.1 in
+    let h = pre.1 in
     omega (arith, left_lower g.ready e g.there h, fits.e)
 
 pub deep-operand-x-requires : goal.deep-operand-x-requires
 deep-operand-x-requires t c =
     let pre = c.requires in
     let args = c.args in
-    let g = pre.1.0 in
+    let g = pre.0 in
     let e = args.e in
-    let h = pre.1.1 in (
+    let h = pre.1 in (
       omega (arith, left_lower g.ready e g.there h),
       record {
         recipe = g.recipe;
@@ -61,7 +61,7 @@ deep-returns-then-x-ge-FAULT t c =
     let operand = c.operand-x in
     let if1 = c.if-x-ge-FAULT in
     let e = args.e in
-    let h = pre.1.1 in
+    let h = pre.1 in
     λ r p a there. let f = operand.ensures _ _ a (left_there a e there h) in
     left_fault a e there h f if1.true
 
@@ -72,9 +72,9 @@ deep-apply-requires t c =
     let operand = c.operand-x in
     let if1 = c.if-x-ge-FAULT in
     let if2 = c.if-k-lt5 in
-    let g = pre.1.0 in
+    let g = pre.0 in
     let e = args.e in
-    let h = pre.1.1 in
+    let h = pre.1 in
     let f = operand.ensures _ _ g.ready (left_there g.ready e g.there h) in
     one_asks g.ready e g.there h f if1.false if2.true _
 
@@ -87,29 +87,29 @@ deep-returns-then-k-lt5 t c =
     let if2 = c.if-k-lt5 in
     let apply = c.apply in
     let e = args.e in
-    let h = pre.1.1 in
+    let h = pre.1 in
     λ r p a there. let f = operand.ensures _ _ a (left_there a e there h) in
     one_value a e there h f if1.false if2.true _ apply.ensures
 
 pub deep-overflow_mul-e-2 : goal.deep-overflow_mul-e-2
 deep-overflow_mul-e-2 t c =
     let pre = c.requires in
-    omega (arith, pre.1.0.ready.recipe.counts.few_exprs, pre.1.0.there)
+    omega (arith, pre.0.ready.recipe.counts.few_exprs, pre.0.there)
 
 pub deep-overflow_add-e-2 : goal.deep-overflow_add-e-2
 deep-overflow_add-e-2 t c =
     let pre = c.requires in
-    omega (arith, pre.1.0.ready.recipe.counts.few_exprs, pre.1.0.there)
+    omega (arith, pre.0.ready.recipe.counts.few_exprs, pre.0.there)
 
 pub deep-offset_bounds-t-e-3 : goal.deep-offset_bounds-t-e-3
 deep-offset_bounds-t-e-3 t c =
     let pre = c.requires in
-    omega (arith, pre.1.0.ready.recipe.counts.few_exprs, pre.1.0.there)
+    omega (arith, pre.0.ready.recipe.counts.few_exprs, pre.0.there)
 
 pub deep-bounds-t-e-3 : goal.deep-bounds-t-e-3
 deep-bounds-t-e-3 t c =
     let pre = c.requires in
-    omega (arith, pre.1.0.ready.recipe.counts.few_exprs, pre.1.0.there)
+    omega (arith, pre.0.ready.recipe.counts.few_exprs, pre.0.there)
 
 pub deep-overflow_cast-t-2 : goal.deep-overflow_cast-t-2
 deep-overflow_cast-t-2 t c =
@@ -117,9 +117,9 @@ deep-overflow_cast-t-2 t c =
     let args = c.args in
     let fits = c.ranges in
     let if2 = c.if-k-lt5 in
-    let g = pre.1.0 in
+    let g = pre.0 in
     let e = args.e in
-    let h = pre.1.1 in
+    let h = pre.1 in
     omega (arith, right_lower g.ready e g.there h if2.false, fits.e)
 
 pub deep-operand-y-requires : goal.deep-operand-y-requires
@@ -127,9 +127,9 @@ deep-operand-y-requires t c =
     let pre = c.requires in
     let args = c.args in
     let if2 = c.if-k-lt5 in
-    let g = pre.1.0 in
+    let g = pre.0 in
     let e = args.e in
-    let h = pre.1.1 in (
+    let h = pre.1 in (
       omega (arith, right_lower g.ready e g.there h if2.false),
       record { recipe = g.recipe; policy = g.policy; ready = g.ready; there = right_there g.ready e g.there h if2.false },
     )
@@ -144,7 +144,7 @@ deep-returns-then-y-ge-FAULT t c =
     let operand2 = c.operand-y in
     let if3 = c.if-y-ge-FAULT in
     let e = args.e in
-    let h = pre.1.1 in
+    let h = pre.1 in
     λ r p a there. let f = operand.ensures _ _ a (left_there a e there h) in
     let k = operand2.ensures _ _ a (right_there a e there h if2.false) in
     right_fault a e there h f if1.false if2.false k if3.true
@@ -158,9 +158,9 @@ deep-apply-requires-2 t c =
     let if2 = c.if-k-lt5 in
     let operand2 = c.operand-y in
     let if3 = c.if-y-ge-FAULT in
-    let g = pre.1.0 in
+    let g = pre.0 in
     let e = args.e in
-    let h = pre.1.1 in
+    let h = pre.1 in
     let f = operand.ensures _ _ g.ready (left_there g.ready e g.there h) in
     let k = operand2.ensures _ _ g.ready (right_there g.ready e g.there h if2.false) in
     two_asks g.ready e g.there h f if1.false if2.false k if3.false
@@ -176,7 +176,7 @@ deep-returns t c =
     let if3 = c.if-y-ge-FAULT in
     let apply2 = c.apply-2 in
     let e = args.e in
-    let h = pre.1.1 in
+    let h = pre.1 in
     λ r p a there. let f = operand.ensures _ _ a (left_there a e there h) in
     let k = operand2.ensures _ _ a (right_there a e there h if2.false) in
     two_value a e there h f if1.false if2.false k if3.false apply2.ensures

@@ -61,7 +61,7 @@ pub both-requires-in_default : goal.both-requires-in_default
 both-requires-in_default c =
     let args = c.args in
     let pre = c.requires in
-    let a : 5 ≤ args.k = omega (arith, pre.some, c.in_default.in_default-own.rest.0.0.0.0.0.0.0.0.0.0.0.1, c.in_default.in_default-own.rest.0.0.0.0.0.0.0.0.0.0.1, c.in_default.in_default-own.rest.0.0.0.0.0.0.0.0.0.1, c.in_default.in_default-own.rest.0.0.0.0.0.0.0.0.1) in
+    let a : 5 ≤ args.k = omega arith in
     pre.tags a
 
 pub returns-in-1 : goal.returns-in-1
@@ -165,7 +165,6 @@ returns-in_default c =
     let word-of2 = c.word_of-b in
     let is-not-equal = c.is_not_equal in
     let both9 = c.both-in_default in
-    let a : 5 ≤ args.k = omega (arith, pre.some, c.in_default.in_default-own.rest.0.0.0.0.0.0.0.0.0.0.0.1, c.in_default.in_default-own.rest.0.0.0.0.0.0.0.0.0.0.1, c.in_default.in_default-own.rest.0.0.0.0.0.0.0.0.0.1, c.in_default.in_default-own.rest.0.0.0.0.0.0.0.0.1) in
-    let b : 9 ≤ args.k = omega (arith, a, c.in_default.in_default-own.rest.0.0.0.0.0.0.0.1, c.in_default.in_default-own.rest.0.0.0.0.0.0.1, c.in_default.in_default-own.rest.0.0.0.0.0.1, c.in_default.in_default-own.rest.0.0.0.0.1) in
-    let e : args.k ≡ 13 = omega (arith, b, pre.few, c.in_default.in_default-own.rest.0.0.0.1, c.in_default.in_default-own.rest.0.0.1, c.in_default.in_default-own.rest.0.1, c.in_default.in_default-own.rest.1) in
+    let a : 5 ≤ args.k = omega arith in
+    let e : args.k ≡ 13 = omega arith in
     rw (e, both9.ensures, is-not-equal.ensures, word_of.ensures, word-of2.ensures)

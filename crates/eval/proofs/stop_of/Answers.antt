@@ -25,10 +25,6 @@ last n l =
     let m : 6 ≤ n - 2 = omega arith in
     sym (get_or-eq_default (AssignTag ∷ StoreTag ∷ EmitTag ∷ Index ∷ Divisor ∷ Room ∷ []) Frames m)
 
-none_of : (n : ℕ) → 3 ≤ n → (n ≡ 3 → ⊥) → (n ≡ 4 → ⊥) → (n ≡ 5 → ⊥) → (n ≡ 6 → ⊥) → (n ≡ 7 → ⊥) → 8 ≤ n
-
-none_of n l a b c d e = omega arith
-
 pub returns-in-3 : goal.returns-in-3
 unfolding stop_from
 returns-in-3 c = rw c.in-3.is
@@ -50,11 +46,7 @@ unfolding stop_from
 returns-in-7 c = rw c.in-7.is
 
 pub returns-in-0 : goal.returns-in-0
-returns-in-0 c = first (c.args.x - 9223372036854775808) c.in-0.if-this-lt3-own.true
+returns-in-0 c = first _ (omega arith)
 
 pub returns-in_default : goal.returns-in_default
-returns-in_default c =
-    let args = c.args in
-    let match = c.in_default-1 in
-    last _ (none_of (args.x - 9223372036854775808) c.in_default.if-this-lt3-own.false match.rest.0.0.0.0.1 match.rest.0.0.0.1 match.rest.0.0.1
-    match.rest.0.1 match.rest.1)
+returns-in_default c = last _ (omega arith)
