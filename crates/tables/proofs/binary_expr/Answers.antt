@@ -44,5 +44,5 @@ returns-in-8 c = rw c.in-8.is
 pub returns-in_default : goal.returns-in_default
 unfolding binary_expr
 returns-in_default c =
-    let h : 9 ≤ c.args.operator = past 9 _ c.in_default.in_default-own.rest in
+    let h : 9 ≤ c.args.operator = omega arith in
     rw get_or-eq_default

@@ -44,5 +44,5 @@ returns-in-6 c = rw (c.in-6.is, c.stmt_if-in-6.ensures, c.zeros-in-6.ensures)
 pub returns-in_default : goal.returns-in_default
 unfolding stmt_of
 returns-in_default c =
-    let h : 7 ≤ c.args.kind = past 7 _ c.in_default.in_default-own.rest in
+    let h : 7 ≤ c.args.kind = omega arith in
     rw get_or-eq_default

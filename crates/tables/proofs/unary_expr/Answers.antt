@@ -20,5 +20,5 @@ returns-in-2 c = rw c.in-2.is
 pub returns-in_default : goal.returns-in_default
 unfolding unary_expr
 returns-in_default c =
-    let h : 3 ≤ c.args.operator = past 3 _ c.in_default.in_default-own.rest in
+    let h : 3 ≤ c.args.operator = omega arith in
     rw get_or-eq_default

@@ -1,0 +1,6 @@
+-- A place is held as its answer. Assumes nothing.
+use borrow.Author.Rules.{rules}
+use Rattle.steps.proofs.put_place.Goals as goal
+
+pub returns : goal.returns
+returns c = rw c.answer.ensures

@@ -1,0 +1,45 @@
+-- The index comes before the value. Assumes nothing.
+use mathlib.Core.Path.{refl, ◌∙◌}
+use Rattle.steps.proofs.Asked.{value_found, value_lost, tag_found}
+use borrow.Author.Rules.{rules}
+use Rattle.steps.proofs.store.Goals as goal
+
+pub returns-then-x-ge-FAULT : goal.returns-then-x-ge-FAULT
+returns-then-x-ge-FAULT c r p a b i e =
+    let value = c.value-x in
+    let if1 = c.if-x-ge-FAULT in
+    let word_of = c.word_of in
+    let lost = value_lost a i value.ensures if1.true in
+    rw lost.is (word_of.ensures ∙ lost.word, refl)
+
+pub returns-then-v-ge-FAULT : goal.returns-then-v-ge-FAULT
+returns-then-v-ge-FAULT c r p a b i e =
+    let value2 = c.value-v in
+    let if2 = c.if-v-ge-FAULT in
+    let value = c.value-x in
+    let if1 = c.if-x-ge-FAULT in
+    let word-of2 = c.word_of-then-v-ge-FAULT in
+    let lost = value_lost a e value2.ensures if2.true in
+    rw (value_found a i value.ensures if1.false, lost.is) (word-of2.ensures ∙ lost.word, refl)
+
+pub store_at-requires : goal.store_at-requires
+store_at-requires c =
+    let pre = c.requires in
+    let value = c.value-x in
+    let if1 = c.if-x-ge-FAULT in
+    let value2 = c.value-v in
+    let if2 = c.if-v-ge-FAULT in
+    let x = tag_found pre.ready pre.index value.ensures if1.false in
+    let v = tag_found pre.ready pre.value value2.ensures if2.false in
+    record { recipe = pre.recipe; policy = pre.policy; ready = pre.ready; branch = pre.branch; indexed = x; tagged = v }
+
+pub returns : goal.returns
+returns c r p a b i e =
+    let value = c.value-x in
+    let if1 = c.if-x-ge-FAULT in
+    let value2 = c.value-v in
+    let if2 = c.if-v-ge-FAULT in
+    let store_at = c.store_at in
+    let x = tag_found a i value.ensures if1.false in
+    let v = tag_found a e value2.ensures if2.false in
+    rw (value_found a i value.ensures if1.false, value_found a e value2.ensures if2.false) (store_at.ensures r p a b x v)
