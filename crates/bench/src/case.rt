@@ -6,7 +6,7 @@
 pub const FILLER: u8 = 0xEE;
 
 // How much of each array is lent to the machine.
-#[derive(Drop)]
+#[derive(Clone, Copy)]
 pub struct Lengths {
     pub recipe: usize,
     pub policy: usize,
@@ -17,7 +17,7 @@ pub struct Lengths {
 
 // `after` and `written` are the memory and the record room as they must be left; `put` counts what `written` holds so
 // far. There is room for a recipe of 514 records, a policy of 17 tags, 8 places of memory and 8 records.
-#[derive(Drop)]
+#[derive(Clone, Copy)]
 pub struct Case {
     pub recipe: [u8; 4128],
     pub policy: [u8; 300],

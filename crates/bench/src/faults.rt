@@ -2,6 +2,7 @@
 use crate::case::Case;
 use crate::op;
 use crate::tally::Tally;
+use std::io::Write;
 
 // Expressions 0 to 3: 1, 0, 1 / 0, and c[1], which is out of range with one cell.
 fn faulty(e: u16, s: u16, v: u16) -> Case {
@@ -10,13 +11,20 @@ fn faulty(e: u16, s: u16, v: u16) -> Case {
 }
 
 // x := left op right, at place 1.
-fn operands(t: Tally, name: &[u8], op: u8, left: u16, right: u32, end: u32) -> Tally {
+fn operands<W: Write>(
+    t: Tally<W>,
+    name: &[u8],
+    op: u8,
+    left: u16,
+    right: u32,
+    end: u32,
+) -> Tally<W> {
     let c = faulty(5, 2, 1).binary(op, left, right);
     let c = c.skip().assign(0, 4).place(7, 0).place(8, 0);
     t.tried(name, c, end, 1, 1, 0)
 }
 
-fn binaries(t: Tally) -> Tally {
+fn binaries<W: Write>(t: Tally<W>) -> Tally<W> {
     let t = operands(t, b"c[bad] + 1/0", op::ADD, 3, 2, 5);
     let t = operands(t, b"1/0 + c[bad]", op::ADD, 2, 3, 6);
     let t = operands(t, b"c[bad] == 1/0", op::EQUAL, 3, 2, 5);
@@ -33,13 +41,13 @@ fn marked(c: Case) -> Case {
 }
 
 // if h then c[index] := value.
-fn stored(t: Tally, name: &[u8], index: u16, value: u16, end: u32) -> Tally {
+fn stored<W: Write>(t: Tally<W>, name: &[u8], index: u16, value: u16, end: u32) -> Tally<W> {
     let c = faulty(5, 3, 2).variable(0).skip();
     let c = marked(c.store(index, value));
     t.tried(name, c, end, 1, 2, 0)
 }
 
-fn stores(t: Tally) -> Tally {
+fn stores<W: Write>(t: Tally<W>) -> Tally<W> {
     let t = stored(t, b"store: index before value", 2, 3, 6);
     let t = stored(t, b"store: index fault", 3, 2, 5);
     let t = stored(t, b"store: value before range", 0, 2, 6);
@@ -47,7 +55,7 @@ fn stores(t: Tally) -> Tally {
     stored(t, b"store: tag", 1, 0, 3)
 }
 
-fn writes(t: Tally) -> Tally {
+fn writes<W: Write>(t: Tally<W>) -> Tally<W> {
     let c = faulty(5, 3, 2).variable(0).skip();
     let value = marked(c.assign(1, 2));
     let t = t.tried(b"assign: value before tag", value, 6, 1, 2, 0);
@@ -59,7 +67,7 @@ fn writes(t: Tally) -> Tally {
 }
 
 // Nothing is pushed, and the place is the statement whose test it is.
-fn tests(t: Tally) -> Tally {
+fn tests<W: Write>(t: Tally<W>) -> Tally<W> {
     let c = Case::of(3, 2, 0, 0).constant(1).constant(0);
     let c = c.binary(op::DIV, 0, 1).skip();
     let t = t.tried(b"if 1/0", c.if_else(2, 0, 0), 6, 1, 1, 0);
@@ -71,7 +79,7 @@ fn tests(t: Tally) -> Tally {
     t.tried(b"while 1/x do x := x - 1", c, 6, 1, 3, 0)
 }
 
-pub fn all(t: Tally) -> Tally {
+pub fn all<W: Write>(t: Tally<W>) -> Tally<W> {
     let t = binaries(t);
     let t = stores(t);
     let t = writes(t);

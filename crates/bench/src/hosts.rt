@@ -2,6 +2,7 @@
 use crate::case::Case;
 use crate::tally::Tally;
 use crate::{runs, tags};
+use std::io::Write;
 
 // while 1 do skip.
 fn endless() -> Case {
@@ -9,7 +10,7 @@ fn endless() -> Case {
     c.while_do(0, 0).host(16)
 }
 
-fn reports(t: Tally) -> Tally {
+fn reports<W: Write>(t: Tally<W>) -> Tally<W> {
     let c = runs::countdown().place(2, 0).budget(0);
     let t = t.tried(b"C entry, report of 11 bytes", c.host(11), 30, 0, 0, 0);
     let t = t.tried(b"C entry, no report", c.host(0), 30, 0, 0, 0);
@@ -21,7 +22,7 @@ fn reports(t: Tally) -> Tally {
     t.tried(b"C entry, budget 4", c.budget(4).host(16), 1, 0, 4, 0)
 }
 
-fn entries(t: Tally) -> Tally {
+fn entries<W: Write>(t: Tally<W>) -> Tally<W> {
     let c = endless();
     let t = t.tried(b"C entry, house budget", c.budget(0), 1, 0, 10000, 0);
     let t = t.tried(b"C entry, budget 7", c.budget(7), 1, 0, 7, 0);
@@ -35,14 +36,14 @@ fn entries(t: Tally) -> Tally {
     t.tried(b"C entry, place 256", c, 21, 256, 0, 0)
 }
 
-fn houses(t: Tally) -> Tally {
+fn houses<W: Write>(t: Tally<W>) -> Tally<W> {
     let t = t.housed(b"house policy into 300 bytes", 300, 0);
     let t = t.housed(b"house policy into 266 bytes", 266, 0);
     let t = t.housed(b"house policy into 265 bytes", 265, 29);
     t.housed(b"house policy into nothing", 0, 29)
 }
 
-pub fn all(t: Tally) -> Tally {
+pub fn all<W: Write>(t: Tally<W>) -> Tally<W> {
     let t = reports(t);
     let t = entries(t);
     houses(t)

@@ -3,6 +3,7 @@
 use crate::case::Case;
 use crate::op;
 use crate::tally::Tally;
+use std::io::Write;
 
 // Expressions from byte 16, statements from byte 56; 112 bytes. The run is the emit alone.
 fn every_kind() -> Case {
@@ -24,16 +25,16 @@ fn every_kind() -> Case {
         .room(5)
 }
 
-fn refused(t: Tally, name: &[u8], c: Case, end: u32, place: u32) -> Tally {
+fn refused<W: Write>(t: Tally<W>, name: &[u8], c: Case, end: u32, place: u32) -> Tally<W> {
     t.tried(name, c, end, place, 0, 0)
 }
 
 // One byte of the recipe.
-fn patched(t: Tally, name: &[u8], o: usize, x: u8, end: u32, place: u32) -> Tally {
+fn patched<W: Write>(t: Tally<W>, name: &[u8], o: usize, x: u8, end: u32, place: u32) -> Tally<W> {
     refused(t, name, every_kind().recipe_byte(o, x), end, place)
 }
 
-fn headers(t: Tally) -> Tally {
+fn headers<W: Write>(t: Tally<W>) -> Tally<W> {
     let c = every_kind().emitted(1, 4);
     let t = t.tried(b"every kind of record", c, 0, 0, 1, 1);
     let t = patched(t, b"mark, first byte", 0, 0x53, 17, 0);
@@ -46,7 +47,7 @@ fn headers(t: Tally) -> Tally {
 }
 
 // Each count just past its range, and counts in range that are refused for what they count.
-fn counts(t: Tally) -> Tally {
+fn counts<W: Write>(t: Tally<W>) -> Tally<W> {
     let c = every_kind();
     let t = patched(t, b"S = 0", 8, 0, 19, 0);
     let t = patched(t, b"V = 65", 10, 65, 19, 0);
@@ -59,7 +60,7 @@ fn counts(t: Tally) -> Tally {
     refused(t, b"M = 1024", m.recipe_byte(12, 0), 27, 0)
 }
 
-fn lengths(t: Tally) -> Tally {
+fn lengths<W: Write>(t: Tally<W>) -> Tally<W> {
     let c = every_kind();
     let t = refused(t, b"recipe of no bytes", c.recipe_length(0), 16, 0);
     let t = refused(t, b"recipe of 15 bytes", c.recipe_length(15), 16, 0);
@@ -68,7 +69,7 @@ fn lengths(t: Tally) -> Tally {
     refused(t, b"recipe a byte long", c.recipe_length(113), 16, 0)
 }
 
-fn header_order(t: Tally) -> Tally {
+fn header_order<W: Write>(t: Tally<W>) -> Tally<W> {
     let c = every_kind();
     let mark = c.recipe_byte(0, 0);
     let t = refused(t, b"16 short before 17", mark.recipe_length(15), 16, 0);
@@ -83,7 +84,7 @@ fn header_order(t: Tally) -> Tally {
 }
 
 // Kinds 1 to 3, at bytes 16, 24 and 32.
-fn leaves(t: Tally) -> Tally {
+fn leaves<W: Write>(t: Tally<W>) -> Tally<W> {
     let t = patched(t, b"expression of kind 0", 16, 0, 20, 0);
     let t = patched(t, b"constant: operator byte", 17, 1, 20, 0);
     let t = patched(t, b"constant: a", 18, 1, 20, 0);
@@ -96,7 +97,7 @@ fn leaves(t: Tally) -> Tally {
 }
 
 // Kinds 4 and 5, at bytes 40 and 48.
-fn operators(t: Tally) -> Tally {
+fn operators<W: Write>(t: Tally<W>) -> Tally<W> {
     let t = patched(t, b"unary: operator 3", 41, 3, 20, 3);
     let t = patched(t, b"unary: operand not lower", 42, 3, 20, 3);
     let t = patched(t, b"unary: b", 44, 1, 20, 3);
@@ -108,7 +109,7 @@ fn operators(t: Tally) -> Tally {
 }
 
 // Skip and assign, at bytes 56 and 64.
-fn plain_statements(t: Tally) -> Tally {
+fn plain_statements<W: Write>(t: Tally<W>) -> Tally<W> {
     let t = patched(t, b"skip: port byte", 57, 1, 22, 0);
     let t = patched(t, b"skip: a", 58, 1, 22, 0);
     let t = patched(t, b"skip: b", 60, 1, 22, 0);
@@ -120,7 +121,7 @@ fn plain_statements(t: Tally) -> Tally {
 }
 
 // Store and then, at bytes 72 and 80.
-fn pair_statements(t: Tally) -> Tally {
+fn pair_statements<W: Write>(t: Tally<W>) -> Tally<W> {
     let t = patched(t, b"store: port byte", 73, 1, 22, 2);
     let t = patched(t, b"store: a = E", 74, 5, 22, 2);
     let t = patched(t, b"store: b = E", 76, 5, 22, 2);
@@ -132,7 +133,7 @@ fn pair_statements(t: Tally) -> Tally {
 }
 
 // If and while, at bytes 88 and 96.
-fn test_statements(t: Tally) -> Tally {
+fn test_statements<W: Write>(t: Tally<W>) -> Tally<W> {
     let t = patched(t, b"if: port byte", 89, 1, 22, 4);
     let t = patched(t, b"if: a = E", 90, 5, 22, 4);
     let t = patched(t, b"if: b not lower", 92, 4, 22, 4);
@@ -144,7 +145,7 @@ fn test_statements(t: Tally) -> Tally {
 }
 
 // Emit, at byte 104; its port is looked at only after the policy.
-fn emit_statements(t: Tally) -> Tally {
+fn emit_statements<W: Write>(t: Tally<W>) -> Tally<W> {
     let t = patched(t, b"statement of kind 7", 104, 7, 22, 6);
     let t = patched(t, b"emit: a = E", 106, 5, 22, 6);
     let t = patched(t, b"emit: b", 108, 1, 22, 6);
@@ -156,7 +157,7 @@ fn emit_statements(t: Tally) -> Tally {
     refused(t, b"emit: port, never reached", c, 26, 0)
 }
 
-fn record_order(t: Tally) -> Tally {
+fn record_order<W: Write>(t: Tally<W>) -> Tally<W> {
     let c = every_kind().recipe_byte(49, 9);
     let t = refused(t, b"20 upwards", c.recipe_byte(25, 1), 20, 1);
     let t = refused(t, b"20 before 22", c.recipe_byte(57, 1), 20, 4);
@@ -165,7 +166,7 @@ fn record_order(t: Tally) -> Tally {
     refused(t, b"22 before 23", c.policy_byte(0, 0), 22, 6)
 }
 
-fn policies(t: Tally) -> Tally {
+fn policies<W: Write>(t: Tally<W>) -> Tally<W> {
     let c = every_kind();
     let t = refused(t, b"policy mark", c.policy_byte(2, 0x52), 23, 0);
     let t = refused(t, b"policy version", c.policy_byte(3, 2), 23, 0);
@@ -181,7 +182,7 @@ fn policies(t: Tally) -> Tally {
 }
 
 // Joins at bytes 8 to 11, clearances at 12 and 13.
-fn entries(t: Tally) -> Tally {
+fn entries<W: Write>(t: Tally<W>) -> Tally<W> {
     let join = every_kind().policy_byte(10, 2);
     let clearance = every_kind().policy_byte(13, 2);
     let t = refused(t, b"join not below n", join, 24, 10);
@@ -206,7 +207,7 @@ fn three_tags(join: u8) -> Case {
         .policy_length(19)
 }
 
-fn laws(t: Tally) -> Tally {
+fn laws<W: Write>(t: Tally<W>) -> Tally<W> {
     let c = every_kind();
     let t = refused(t, b"law of (t,t)", c.policy_byte(11, 0), 25, 0);
     let t = refused(t, b"law of order", c.policy_byte(10, 0), 25, 0);
@@ -221,7 +222,7 @@ fn laws(t: Tally) -> Tally {
     refused(t, b"26 before 27", port, 26, 6)
 }
 
-fn memories(t: Tally) -> Tally {
+fn memories<W: Write>(t: Tally<W>) -> Tally<W> {
     let c = every_kind();
     let t = refused(t, b"memory a byte short", c.memory_length(9), 27, 0);
     let t = refused(t, b"memory a byte long", c.memory_length(11), 27, 0);
@@ -238,7 +239,7 @@ fn memories(t: Tally) -> Tally {
     t.tried(b"tag 15 of the house policy", c, 0, 0, 1, 1)
 }
 
-pub fn all(t: Tally) -> Tally {
+pub fn all<W: Write>(t: Tally<W>) -> Tally<W> {
     let t = headers(t);
     let t = counts(t);
     let t = lengths(t);

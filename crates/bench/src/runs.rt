@@ -2,6 +2,7 @@
 use crate::case::{Case, minus};
 use crate::op;
 use crate::tally::Tally;
+use std::io::Write;
 
 const LOW: u32 = 2147483648;
 
@@ -17,7 +18,7 @@ pub fn countdown() -> Case {
 }
 
 // The assembler agrees with the bytes that document 01 gives.
-fn spelled(t: Tally) -> Tally {
+fn spelled<W: Write>(t: Tally<W>) -> Tally<W> {
     t.spelled(
         b"countdown, its bytes",
         countdown(),
@@ -27,7 +28,7 @@ fn spelled(t: Tally) -> Tally {
     )
 }
 
-fn budgets(t: Tally) -> Tally {
+fn budgets<W: Write>(t: Tally<W>) -> Tally<W> {
     let c = countdown().place(2, 0);
     let zero = c.leaves(0, 0, 0);
     let one = c.leaves(0, 1, 0);
@@ -49,7 +50,14 @@ fn budgets(t: Tally) -> Tally {
 // ---- values
 
 // x := left op right.
-fn gives(t: Tally, name: &[u8], op: u8, left: u32, right: u32, value: u32) -> Tally {
+fn gives<W: Write>(
+    t: Tally<W>,
+    name: &[u8],
+    op: u8,
+    left: u32,
+    right: u32,
+    value: u32,
+) -> Tally<W> {
     let c = Case::of(3, 1, 1, 0).constant(left).constant(right);
     let c = c.binary(op, 0, 1).assign(0, 2);
     let c = c.place(77, 0).leaves(0, value, 0);
@@ -57,13 +65,13 @@ fn gives(t: Tally, name: &[u8], op: u8, left: u32, right: u32, value: u32) -> Ta
 }
 
 // x := op of operand.
-fn turns(t: Tally, name: &[u8], op: u8, operand: u32, value: u32) -> Tally {
+fn turns<W: Write>(t: Tally<W>, name: &[u8], op: u8, operand: u32, value: u32) -> Tally<W> {
     let c = Case::of(2, 1, 1, 0).constant(operand).unary(op, 0);
     let c = c.assign(0, 1).place(77, 0).leaves(0, value, 0);
     t.tried(name, c, 0, 0, 1, 0)
 }
 
-fn sums(t: Tally) -> Tally {
+fn sums<W: Write>(t: Tally<W>) -> Tally<W> {
     let t = gives(t, b"P11 highest + 1", op::ADD, HIGH, 1, LOW);
     let t = gives(t, b"-3 + 5", op::ADD, minus(3), 5, 2);
     let t = gives(t, b"lowest - 1", op::SUB, LOW, 1, HIGH);
@@ -73,7 +81,7 @@ fn sums(t: Tally) -> Tally {
     gives(t, b"-3 * 5", op::MUL, minus(3), 5, minus(15))
 }
 
-fn signs(t: Tally) -> Tally {
+fn signs<W: Write>(t: Tally<W>) -> Tally<W> {
     let t = turns(t, b"negate 7", op::NEGATE, 7, minus(7));
     let t = turns(t, b"negate lowest", op::NEGATE, LOW, LOW);
     let t = turns(t, b"absolute -7", op::ABSOLUTE, minus(7), 7);
@@ -81,7 +89,7 @@ fn signs(t: Tally) -> Tally {
     turns(t, b"absolute lowest", op::ABSOLUTE, LOW, LOW)
 }
 
-fn quotients(t: Tally) -> Tally {
+fn quotients<W: Write>(t: Tally<W>) -> Tally<W> {
     let t = gives(t, b"P12 -7 / 2", op::DIV, minus(7), 2, minus(3));
     let t = gives(t, b"7 / -2", op::DIV, 7, minus(2), minus(3));
     let t = gives(t, b"-7 / -2", op::DIV, minus(7), minus(2), 3);
@@ -93,7 +101,7 @@ fn quotients(t: Tally) -> Tally {
     gives(t, b"lowest % -1", op::REM, LOW, minus(1), 0)
 }
 
-fn comparisons(t: Tally) -> Tally {
+fn comparisons<W: Write>(t: Tally<W>) -> Tally<W> {
     let t = gives(t, b"-1 < 0", op::LESS, minus(1), 0, 1);
     let t = gives(t, b"0 < -1", op::LESS, 0, minus(1), 0);
     let t = gives(t, b"lowest < highest", op::LESS, LOW, HIGH, 1);
@@ -102,7 +110,7 @@ fn comparisons(t: Tally) -> Tally {
     gives(t, b"-1 <= -1", op::LESS_EQ, minus(1), minus(1), 1)
 }
 
-fn equalities(t: Tally) -> Tally {
+fn equalities<W: Write>(t: Tally<W>) -> Tally<W> {
     let t = gives(t, b"-1 == -1", op::EQUAL, minus(1), minus(1), 1);
     let t = gives(t, b"-1 == 1", op::EQUAL, minus(1), 1, 0);
     let t = gives(t, b"-1 != 1", op::NOT_EQUAL, minus(1), 1, 1);
@@ -126,7 +134,7 @@ fn store(i: u32) -> Case {
     c.place(7, 0).place(8, 0).place(9, 0)
 }
 
-fn loads(t: Tally) -> Tally {
+fn loads<W: Write>(t: Tally<W>) -> Tally<W> {
     let t = t.tried(b"load at 0", load(0).leaves(0, 8, 0), 0, 0, 4, 0);
     let t = t.tried(b"load at M-1", load(1).leaves(0, 9, 0), 0, 0, 4, 0);
     let t = t.tried(b"load at M", load(2), 5, 1, 4, 0);
@@ -136,7 +144,7 @@ fn loads(t: Tally) -> Tally {
     t.tried(b"load with no cells", c.place(7, 0), 5, 0, 1, 0)
 }
 
-fn stores(t: Tally) -> Tally {
+fn stores<W: Write>(t: Tally<W>) -> Tally<W> {
     let t = t.tried(b"store at 0", store(0).leaves(1, 5, 0), 0, 0, 4, 0);
     let t = t.tried(b"store at M-1", store(1).leaves(2, 5, 0), 0, 0, 4, 0);
     let t = t.tried(b"store at M", store(2), 5, 1, 4, 0);
@@ -166,7 +174,7 @@ fn doublings(e: u16) -> Case {
         .binary(op::ADD, 6, 6)
 }
 
-fn spreads(t: Tally) -> Tally {
+fn spreads<W: Write>(t: Tally<W>) -> Tally<W> {
     let c = negations(255).leaves(0, minus(5), 0);
     let t = t.tried(b"255 negations, spread 256", c, 0, 0, 1, 0);
     let t = t.tried(b"256 negations, spread 257", negations(256), 21, 256, 0, 0);
@@ -184,14 +192,14 @@ fn spreads(t: Tally) -> Tally {
 }
 
 // Statement 0 skips, and each other is "the one before, then statement 0": S-1 frames are held at once.
-fn statements(t: Tally) -> Tally {
+fn statements<W: Write>(t: Tally<W>) -> Tally<W> {
     let c = Case::of(0, 512, 0, 0).skip().chain(3, 511);
     let t = t.tried(b"S = 512", c, 0, 0, 1534, 0);
     let c = Case::of(0, 513, 0, 0).skip().chain(3, 512);
     t.tried(b"S = 513", c, 19, 0, 0, 0)
 }
 
-pub fn all(t: Tally) -> Tally {
+pub fn all<W: Write>(t: Tally<W>) -> Tally<W> {
     let t = spelled(t);
     let t = budgets(t);
     let t = sums(t);

@@ -2,6 +2,7 @@
 use crate::case::{Case, minus};
 use crate::op;
 use crate::tally::Tally;
+use std::io::Write;
 
 // ---- the lesson
 
@@ -11,7 +12,7 @@ pub fn lesson() -> Case {
     c.skip().assign(0, 1).if_else(0, 1, 0)
 }
 
-fn branches(t: Tally) -> Tally {
+fn branches<W: Write>(t: Tally<W>) -> Tally<W> {
     let c = lesson().place(0, 0).place(1, 1);
     let t = t.tried(b"P5 if h then x := 1, h = 1", c, 2, 1, 2, 0);
     let t = t.tried(b"P5 stop on the last step", c.budget(2), 2, 1, 2, 0);
@@ -43,7 +44,7 @@ fn restored_inside() -> Case {
     c.then(2, 1).if_else(0, 3, 0)
 }
 
-fn joins(t: Tally) -> Tally {
+fn joins<W: Write>(t: Tally<W>) -> Tally<W> {
     let c = restored().place(0, 0).place(1, 1).leaves(0, 1, 0);
     let t = t.tried(b"after a marked branch x := 1", c, 0, 0, 6, 0);
     let c = restored().place(0, 0).place(0, 1).leaves(0, 1, 0);
@@ -85,7 +86,7 @@ fn nested() -> Case {
     c.skip().if_else(0, 3, 4)
 }
 
-fn repeated_tests(t: Tally) -> Tally {
+fn repeated_tests<W: Write>(t: Tally<W>) -> Tally<W> {
     let c = copied().place(1, 0).place(0, 0).place(1, 1);
     let c = c.leaves(0, 1, 1).leaves(1, 1, 0);
     let t = t.tried(b"repeated test on a marked value", c, 2, 1, 8, 0);
@@ -101,7 +102,7 @@ fn repeated_tests(t: Tally) -> Tally {
 }
 
 // The branch tag after a loop is that of its beginning.
-fn after_loops(t: Tally) -> Tally {
+fn after_loops<W: Write>(t: Tally<W>) -> Tally<W> {
     let c = counted().place(1, 1).place(0, 0);
     let c = c.leaves(0, 0, 1).leaves(1, 1, 0);
     let t = t.tried(b"after a marked loop z := 1", c, 0, 0, 6, 0);
@@ -128,7 +129,7 @@ fn stored_if(cell_tag: u8) -> Case {
     c.house().place(1, 1).place(0, 2).place(5, cell_tag)
 }
 
-fn stores(t: Tally) -> Tally {
+fn stores<W: Write>(t: Tally<W>) -> Tally<W> {
     let t = t.tried(b"marked index, clean cell", stored(2, 4, 0), 3, 0, 1, 0);
     let c = stored(2, 4, 2).leaves(2, 6, 6);
     let t = t.tried(b"marked index, cell of that tag", c, 0, 0, 1, 0);
@@ -144,7 +145,7 @@ fn stores(t: Tally) -> Tally {
     t.tried(b"branch and index tags, cell of both", c, 0, 0, 3, 0)
 }
 
-fn values(t: Tally) -> Tally {
+fn values<W: Write>(t: Tally<W>) -> Tally<W> {
     let c = Case::of(2, 1, 2, 1).variable(0).cell(0).assign(1, 1);
     let c = c.house().place(0, 1).place(0, 0).place(5, 2);
     let c = c.leaves(1, 5, 3);
@@ -174,14 +175,14 @@ fn verdicts(port: u8) -> Case {
     c.if_else(0, 0, 1).room(5)
 }
 
-fn emissions(t: Tally) -> Tally {
+fn emissions<W: Write>(t: Tally<W>) -> Tally<W> {
     let t = t.tried(b"P8 emit on port 0", emission(0).room(5), 4, 0, 1, 0);
     let c = emission(1).room(5).emitted(1, 7);
     let t = t.tried(b"P9 emit on port 1", c, 0, 0, 1, 1);
     t.tried(b"P10 4 bytes room", emission(1).room(4), 7, 0, 1, 0)
 }
 
-fn choices(t: Tally) -> Tally {
+fn choices<W: Write>(t: Tally<W>) -> Tally<W> {
     let c = verdicts(0);
     let t = t.tried(b"marked branch, first verdict", c.place(1, 1), 4, 0, 2, 0);
     let t = t.tried(b"marked branch, second verdict", c.place(0, 1), 4, 1, 2, 0);
@@ -209,7 +210,7 @@ fn alarms() -> Case {
     c.house().place(9, 5).emitted(1, 9).emitted(1, 9)
 }
 
-fn rooms(t: Tally) -> Tally {
+fn rooms<W: Write>(t: Tally<W>) -> Tally<W> {
     let c = two_records().emitted(1, minus(2));
     let t = t.tried(b"room for two records", c.room(10), 0, 0, 4, 2);
     let t = t.tried(b"room to spare", c.room(14), 0, 0, 4, 2);
@@ -220,7 +221,7 @@ fn rooms(t: Tally) -> Tally {
     t.tried(b"room for alarms and verdict", c, 0, 0, 7, 3)
 }
 
-pub fn all(t: Tally) -> Tally {
+pub fn all<W: Write>(t: Tally<W>) -> Tally<W> {
     let t = branches(t);
     let t = joins(t);
     let t = repeated_tests(t);

@@ -2,9 +2,11 @@
 ghost use Rattle.std.specs.Prelude.{◌<◌};
 
 use crate::case::{Case, FILLER, Lengths, low_half, policy_header, with_half, with_word};
+use std::io::Write;
+use std::{fmt, io};
 
 // The result of a run.
-#[derive(Drop)]
+#[derive(Clone, Copy)]
 pub struct Report {
     pub end: u32,
     pub place: u32,
@@ -12,8 +14,11 @@ pub struct Report {
     pub records: u32,
 }
 
-#[derive(Drop)]
-pub struct Tally {
+// Where the lines go, the first write of them that failed, if any, and what was counted. After a failed write the examples
+// are still tried and counted, and nothing more is said.
+pub struct Tally<W> {
+    pub out: W,
+    pub said: io::Result<()>,
     pub examples: u64,
     pub differ: u64,
 }
@@ -134,15 +139,15 @@ fn judge(
 // ---- comparison
 
 fn same(a: &[u8; 40], b: &[u8; 40]) -> bool {
-    check::same(a, b)
+    a == b
 }
 
 fn same_policy(a: &[u8; 300], b: &[u8; 300]) -> bool {
-    check::same(a, b)
+    a == b
 }
 
 fn same_recipe(a: &[u8; 4128], n: usize, b: &[u8]) -> bool {
-    check::same(first(a, n), b)
+    first(a, n) == b
 }
 
 fn same_numbers(a: Report, b: Report) -> bool {
@@ -171,49 +176,63 @@ fn house_of(number: u32) -> [u8; 300] {
 
 // ---- lines
 
-fn say(text: &[u8]) {
-    io::write_all(libc::STDOUT_FILENO, text);
+impl fmt::Display for Report {
+    fn fmt<W: fmt::Write>(&self, f: &mut fmt::Formatter<W>) -> fmt::Result {
+        let Report {
+            end,
+            place,
+            steps,
+            records,
+        } = *self;
+        write!(f, "{end} {place} {steps} {records}")
+    }
 }
 
-fn say_number(n: u64) {
-    io::print_decimal(libc::STDOUT_FILENO, n);
-}
-
-fn say_report(r: Report) {
-    say_number(r.end as u64);
-    say(b" ");
-    say_number(r.place as u64);
-    say(b" ");
-    say_number(r.steps as u64);
-    say(b" ");
-    say_number(r.records as u64);
-}
-
-// Prints the line of an example, and answers how many differ by it, 0 or 1.
-fn say_line(name: &[u8], got: Report, want: Report, same_bytes: bool) -> u64 {
-    say(name);
+// Prints the line of an example.
+fn say_line(
+    out: &mut impl Write,
+    name: &[u8],
+    got: Report,
+    want: Report,
+    same_bytes: bool,
+) -> io::Result<()> {
+    out.write_all(name)?;
     if !same_numbers(got, want) {
-        say(b" differs: got ");
-        say_report(got);
-        say(b", wanted ");
-        say_report(want);
-        say(b"\n");
-        return 1;
+        return writeln!(out, " differs: got {got}, wanted {want}");
     }
     if !same_bytes {
-        say(b" differs: bytes\n");
-        return 1;
+        return writeln!(out, " differs: bytes");
     }
-    say(b" ok\n");
-    0
+    writeln!(out, " ok")
 }
 
-impl Tally {
-    fn counted(self, name: &[u8], got: Report, want: Report, same_bytes: bool) -> Tally {
-        let differ = say_line(name, got, want, same_bytes);
+impl<W: Write> Tally<W> {
+    pub fn new(out: W) -> Tally<W> {
         Tally {
-            examples: std::num::wrapping_add_u64(self.examples, 1),
-            differ: std::num::wrapping_add_u64(self.differ, differ),
+            out,
+            said: Ok(()),
+            examples: 0,
+            differ: 0,
+        }
+    }
+
+    fn counted(self, name: &[u8], got: Report, want: Report, same_bytes: bool) -> Tally<W> {
+        let Tally {
+            mut out,
+            said,
+            examples,
+            differ,
+        } = self;
+        let said = match said {
+            Ok(()) => say_line(&mut out, name, got, want, same_bytes),
+            Err(e) => Err(e),
+        };
+        let differs = !same_numbers(got, want) || !same_bytes;
+        Tally {
+            out,
+            said,
+            examples: examples.wrapping_add(1),
+            differ: differ.wrapping_add(u64::from(differs)),
         }
     }
 
@@ -226,7 +245,7 @@ impl Tally {
         place: u32,
         steps: u32,
         records: u32,
-    ) -> Tally {
+    ) -> Tally<W> {
         let want = Report {
             end,
             place,
@@ -256,7 +275,7 @@ impl Tally {
     }
 
     // The house policy into a buffer of n bytes.
-    pub fn housed(self, name: &[u8], n: usize, number: u32) -> Tally {
+    pub fn housed(self, name: &[u8], n: usize, number: u32) -> Tally<W> {
         let mut out = [FILLER; 300];
         let mut got = 0;
         if n <= 300 {
@@ -268,16 +287,24 @@ impl Tally {
     }
 
     // The recipe's bytes as document 01 spells them.
-    pub fn spelled(self, name: &[u8], c: Case, bytes: &[u8]) -> Tally {
+    pub fn spelled(self, name: &[u8], c: Case, bytes: &[u8]) -> Tally<W> {
         let recipe = c.recipe;
         let same_bytes = same_recipe(&recipe, c.lengths.recipe, bytes);
         self.counted(name, number_alone(0), number_alone(0), same_bytes)
     }
 
-    pub fn told(self) {
-        say_number(self.examples);
-        say(b" examples, ");
-        say_number(self.differ);
-        say(b" differ\n");
+    // The counts, or the first write that failed.
+    pub fn told(self) -> io::Result<()>
+    where
+        W: Drop,
+    {
+        let Tally {
+            mut out,
+            said,
+            examples,
+            differ,
+        } = self;
+        said?;
+        writeln!(out, "{examples} examples, {differ} differ")
     }
 }
