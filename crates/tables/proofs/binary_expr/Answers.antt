@@ -2,7 +2,7 @@
 use Prim.Native.Nat.{◌≤◌}
 use lib.ListN.{get_or-eq_default}
 use Rattle.rules.specs.Recipe.{binary_expr}
-use Rattle.tables.proofs.Fields.{past}
+use native.Mathlib.Omega.{arith}
 use Rattle.tables.proofs.binary_expr.Goals as goal
 
 pub returns-in-0 : goal.returns-in-0

@@ -1,5 +1,4 @@
 -- `tables::expr_at` meets its contract: each field is read where the record has it. Assumes nothing.
-use borrow.Author.Rules.{rules}
 use Rattle.rules.specs.Recipe.{expr}
 use Rattle.tables.proofs.expr_at.Goals as goal
 

@@ -1,7 +1,6 @@
 -- `tables::expr_of` meets its contract, kind by kind. Assumes nothing.
 use native.Mathlib.Omega.{arith}
 use mathlib.Core.Path.{sym}
-use borrow.Author.Rules.{rules}
 use Rattle.rules.specs.Recipe.{expr_of}
 use Rattle.tables.proofs.Fields.{no_expr}
 use Rattle.tables.proofs.expr_of.Goals as goal

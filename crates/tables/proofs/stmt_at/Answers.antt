@@ -1,5 +1,4 @@
 -- `tables::stmt_at` meets its contract: each field is read where the record has it. Assumes nothing.
-use borrow.Author.Rules.{rules}
 use Rattle.rules.specs.Recipe.{stmt}
 use Rattle.tables.proofs.stmt_at.Goals as goal
 

@@ -1,9 +1,9 @@
 -- `tables::stmt_of` meets its contract, kind by kind. Assumes nothing.
 use Prim.Native.Nat.{◌≤◌}
 use lib.ListN.{get_or-eq_default}
-use borrow.Author.Rules.{rules}
 use Rattle.rules.specs.Recipe.{stmt_of}
-use Rattle.tables.proofs.Fields.{past, all_unused}
+use native.Mathlib.Omega.{arith}
+use Rattle.tables.proofs.Fields.{all_unused}
 use Rattle.tables.proofs.stmt_of.Goals as goal
 
 pub returns-in-0 : goal.returns-in-0

@@ -1,0 +1,13 @@
+use Prim.Native.Nat.{◌+◌, ◌-◌, ◌≤◌}
+use native.Mathlib.Omega.{arith}
+use borrow.Author.Count.{below_none}
+use Rattle.decode.specs.Filled.{ClearancesAs, Kept}
+use Rattle.decode.proofs.Tables.{kept_none, kept_then, kept_set, clearances_more}
+use borrow.Author.Rules.{rules}
+use Rattle.decode.proofs.decode_clearances.Given as goal
+
+abbrev pub invariant-loop-port : goal.invariant-loop-port
+invariant-loop-port l = (l.port ≤ l.ports) × ClearancesAs l.p l.port l.t × Kept 8448 l.initial.t l.t
+
+abbrev pub decreases-loop-port : goal.decreases-loop-port
+decreases-loop-port l = l.ports - l.port

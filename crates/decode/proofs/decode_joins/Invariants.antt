@@ -1,0 +1,13 @@
+use Prim.Native.Nat.{◌-◌, ◌≤◌}
+use native.Mathlib.Omega.{arith}
+use borrow.Author.Count.{below_none}
+use Rattle.decode.specs.Filled.{JoinsAs, Kept}
+use Rattle.decode.proofs.Tables.{kept_none, kept_then, joins_more}
+use borrow.Author.Rules.{rules}
+use Rattle.decode.proofs.decode_joins.Given as goal
+
+abbrev pub invariant-loop-a : goal.invariant-loop-a
+invariant-loop-a l = (l.a ≤ l.tags) × JoinsAs l.p l.a l.t × Kept 8192 l.initial.t l.t
+
+abbrev pub decreases-loop-a : goal.decreases-loop-a
+decreases-loop-a l = l.tags - l.a

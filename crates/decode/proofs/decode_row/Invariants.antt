@@ -1,0 +1,14 @@
+use Prim.Native.Nat.{◌+◌, ◌*◌, ◌-◌, ◌≤◌}
+use native.Mathlib.Omega.{arith}
+use mathlib.Core.Path.{◌≡◌}
+use borrow.Author.Count.{below_none}
+use Rattle.decode.specs.Filled.{RowAs, Kept}
+use Rattle.decode.proofs.Tables.{kept_none, kept_then, kept_set, row_more}
+use borrow.Author.Rules.{rules}
+use Rattle.decode.proofs.decode_row.Given as goal
+
+abbrev pub invariant-loop-b : goal.invariant-loop-b
+invariant-loop-b l = (l.b ≤ l.tags) × RowAs l.p l.a l.b l.t × Kept (8192 + 16 * l.a) l.initial.t l.t
+
+abbrev pub decreases-loop-b : goal.decreases-loop-b
+decreases-loop-b l = l.tags - l.b
