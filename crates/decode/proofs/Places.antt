@@ -2,14 +2,10 @@
 use Prim.Native.Nat.{ℕ, zero, suc, ◌+◌, ◌*◌, ◌^◌, ◌<◌, ◌≤◌}
 use native.Mathlib.Omega.{arith}
 use mathlib.Core.Path.{◌≡◌, refl, sym, ap, ◌∙◌}
-use mathlib.Core.Logic.{inl, inr}
 use mathlib.Core.List.{List, [], ◌∷◌}
-use denote.Enum.Declared.{tag_of}
-use types.Run.{OneOf}
 use borrow.Author.Count.{below_more}
 use lib.ListN.{length, set}
 use lib.Seq.{get_or-set_same, get_or-set_other}
-use Rattle.rules.specs.contracts.Expr.{the_type}
 use Rattle.rules.specs.declared.Place.{Place}
 use Rattle.rules.specs.declared.Expr.{Expr}
 use Rattle.rules.specs.declared.Expr.TheVariants.{Constant, Variable, Cell, Unary, Binary, BadExpr}
@@ -40,18 +36,9 @@ places_more m u i q h small e all =
 
 -- ---- constants
 
-some_tag : (n : ℕ) → OneOf (1 ∷ 2 ∷ 3 ∷ 4 ∷ 5 ∷ []) n → 1 ≤ n
-some_tag n (inl e) = omega arith
-some_tag n (inr (inl e)) = omega arith
-some_tag n (inr (inr (inl e))) = omega arith
-some_tag n (inr (inr (inr (inl e)))) = omega arith
-some_tag n (inr (inr (inr (inr e)))) = omega arith
-
 -- every other expression asks for nothing
-pub no_constant : (u : List ℕ) (e : ℕ) (x : Expr) → OneOf (1 ∷ 2 ∷ 3 ∷ 4 ∷ 5 ∷ []) (tag_of the_type x) → ConstantAs u e x
-no_constant u e (Constant w) h =
-    let z : 1 ≤ 0 = some_tag 0 h in
-    absurd (omega arith)
+pub no_constant : (u : List ℕ) (e : ℕ) (x : Expr) → ((w : ℕ) → x ≡ Constant w → ⊥) → ConstantAs u e x
+no_constant u e (Constant w) h = absurd (h w refl)
 no_constant u e (Variable x) h = tt
 no_constant u e (Cell x) h = tt
 no_constant u e (Unary op x) h = tt

@@ -1,8 +1,7 @@
 -- The loop's invariant: the clearances below `port` are there, and what stands below them is kept. Assumes nothing.
-use Prim.Native.Nat.{◌+◌, ◌-◌, ◌≤◌}
+use Prim.Native.Nat.{◌+◌}
 use native.Mathlib.Omega.{arith}
 use borrow.Author.Count.{below_none}
-use Rattle.decode.specs.Filled.{ClearancesAs, Kept}
 use Rattle.decode.proofs.Tables.{kept_none, kept_then, kept_set, clearances_more}
 use borrow.Author.Rules.{rules}
 use Rattle.decode.proofs.decode_clearances.Goals as goal

@@ -1,9 +1,5 @@
-use Prim.Native.Nat.{◌+◌, ◌-◌, ◌≤◌}
-use native.Mathlib.Omega.{arith}
-use borrow.Author.Count.{below_none}
+use Prim.Native.Nat.{◌-◌, ◌≤◌}
 use Rattle.decode.specs.Filled.{ClearancesAs, Kept}
-use Rattle.decode.proofs.Tables.{kept_none, kept_then, kept_set, clearances_more}
-use borrow.Author.Rules.{rules}
 use Rattle.decode.proofs.decode_clearances.Given as goal
 
 abbrev pub invariant-loop-port : goal.invariant-loop-port

@@ -1,10 +1,7 @@
 -- The loop's invariant: the expressions below `e` are there. Assumes nothing.
-use lib.ListN.{length}
-use Rattle.decode.specs.Filled.{ExprsAs}
 use Rattle.decode.proofs.Tables.{exprs_more}
-use Prim.Native.Nat.{◌-◌, ◌≤◌}
 use native.Mathlib.Omega.{arith}
-use mathlib.Core.Path.{◌≡◌, refl, ◌∙◌}
+use mathlib.Core.Path.{refl, ◌∙◌}
 use borrow.Author.Count.{below_none}
 use borrow.Author.Rules.{rules}
 use Rattle.decode.proofs.decode_exprs.Goals as goal

@@ -1,11 +1,7 @@
 use lib.ListN.{length}
 use Rattle.decode.specs.Filled.{ExprsAs}
-use Rattle.decode.proofs.Tables.{exprs_more}
 use Prim.Native.Nat.{◌-◌, ◌≤◌}
-use native.Mathlib.Omega.{arith}
-use mathlib.Core.Path.{◌≡◌, refl, ◌∙◌}
-use borrow.Author.Count.{below_none}
-use borrow.Author.Rules.{rules}
+use mathlib.Core.Path.{◌≡◌}
 use Rattle.decode.proofs.decode_exprs.Given as goal
 
 abbrev pub invariant-loop-e : goal.invariant-loop-e

@@ -1,8 +1,6 @@
 -- The loop's invariant: the rows below `a` are there, and what stands below the joins is kept. Assumes nothing.
-use Prim.Native.Nat.{◌-◌, ◌≤◌}
 use native.Mathlib.Omega.{arith}
 use borrow.Author.Count.{below_none}
-use Rattle.decode.specs.Filled.{JoinsAs, Kept}
 use Rattle.decode.proofs.Tables.{kept_none, kept_then, joins_more}
 use borrow.Author.Rules.{rules}
 use Rattle.decode.proofs.decode_joins.Goals as goal

@@ -1,9 +1,5 @@
 use Prim.Native.Nat.{◌-◌, ◌≤◌}
-use native.Mathlib.Omega.{arith}
-use borrow.Author.Count.{below_none}
 use Rattle.decode.specs.Filled.{JoinsAs, Kept}
-use Rattle.decode.proofs.Tables.{kept_none, kept_then, joins_more}
-use borrow.Author.Rules.{rules}
 use Rattle.decode.proofs.decode_joins.Given as goal
 
 abbrev pub invariant-loop-a : goal.invariant-loop-a

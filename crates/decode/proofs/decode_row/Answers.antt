@@ -1,9 +1,8 @@
 -- The loop's invariant: the joins of the row below `b` are there, and what stands below the row is kept. Assumes nothing.
-use Prim.Native.Nat.{◌+◌, ◌*◌, ◌-◌, ◌≤◌}
+use Prim.Native.Nat.{◌+◌, ◌*◌}
 use native.Mathlib.Omega.{arith}
 use mathlib.Core.Path.{◌≡◌}
 use borrow.Author.Count.{below_none}
-use Rattle.decode.specs.Filled.{RowAs, Kept}
 use Rattle.decode.proofs.Tables.{kept_none, kept_then, kept_set, row_more}
 use borrow.Author.Rules.{rules}
 use Rattle.decode.proofs.decode_row.Goals as goal

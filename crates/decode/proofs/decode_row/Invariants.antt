@@ -1,10 +1,5 @@
 use Prim.Native.Nat.{◌+◌, ◌*◌, ◌-◌, ◌≤◌}
-use native.Mathlib.Omega.{arith}
-use mathlib.Core.Path.{◌≡◌}
-use borrow.Author.Count.{below_none}
 use Rattle.decode.specs.Filled.{RowAs, Kept}
-use Rattle.decode.proofs.Tables.{kept_none, kept_then, kept_set, row_more}
-use borrow.Author.Rules.{rules}
 use Rattle.decode.proofs.decode_row.Given as goal
 
 abbrev pub invariant-loop-b : goal.invariant-loop-b

@@ -1,8 +1,6 @@
 -- The loop's invariant: the statements below `s` are there, and what stands below them is kept. Assumes nothing.
-use Prim.Native.Nat.{◌-◌, ◌≤◌}
 use native.Mathlib.Omega.{arith}
 use borrow.Author.Count.{below_none}
-use Rattle.decode.specs.Filled.{StmtsAs, Kept}
 use Rattle.decode.proofs.Tables.{kept_none, kept_then, stmt_fits, stmts_more}
 use borrow.Author.Rules.{rules}
 use Rattle.decode.proofs.decode_stmts.Goals as goal

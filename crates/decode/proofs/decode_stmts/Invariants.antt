@@ -1,9 +1,5 @@
 use Prim.Native.Nat.{◌-◌, ◌≤◌}
-use native.Mathlib.Omega.{arith}
-use borrow.Author.Count.{below_none}
 use Rattle.decode.specs.Filled.{StmtsAs, Kept}
-use Rattle.decode.proofs.Tables.{kept_none, kept_then, stmt_fits, stmts_more}
-use borrow.Author.Rules.{rules}
 use Rattle.decode.proofs.decode_stmts.Given as goal
 
 abbrev pub invariant-loop-s : goal.invariant-loop-s

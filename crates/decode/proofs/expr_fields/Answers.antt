@@ -2,7 +2,6 @@
 use native.Mathlib.Omega.{arith}
 use Rattle.layout.proofs.Answers.{unary_range, binary_range}
 use Rattle.decode.proofs.Tables.{expr_fits, expr_told}
-use borrow.Author.Rules.{rules}
 use Rattle.decode.proofs.expr_fields.Goals as goal
 
 pub overflow_cast-v : goal.overflow_cast-v

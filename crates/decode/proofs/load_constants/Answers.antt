@@ -1,8 +1,6 @@
 -- The loop's invariant: the constants of the expressions below `e` are there, and the memory's places are kept. Assumes nothing.
-use Prim.Native.Nat.{◌-◌, ◌≤◌}
 use native.Mathlib.Omega.{arith}
 use borrow.Author.Count.{below_none}
-use Rattle.decode.specs.Filled.{ConstantsAs, Kept}
 use Rattle.decode.proofs.Tables.{kept_none, kept_then}
 use Rattle.decode.proofs.Places.{constants_more}
 use borrow.Author.Rules.{rules}

@@ -1,10 +1,7 @@
 -- The loop's invariant: the places below `i` are there. Assumes nothing.
-use Prim.Native.Nat.{◌-◌, ◌≤◌}
-use lib.ListN.{length, length-set}
+use lib.ListN.{length-set}
 use native.Mathlib.Omega.{arith}
-use mathlib.Core.Path.{◌≡◌}
 use borrow.Author.Count.{below_none}
-use Rattle.decode.specs.Filled.{PlacesAs}
 use Rattle.decode.proofs.Places.{places_more}
 use borrow.Author.Rules.{rules}
 use Rattle.decode.proofs.load_places.Goals as goal

@@ -1,11 +1,7 @@
 use Prim.Native.Nat.{◌-◌, ◌≤◌}
-use lib.ListN.{length, length-set}
-use native.Mathlib.Omega.{arith}
+use lib.ListN.{length}
 use mathlib.Core.Path.{◌≡◌}
-use borrow.Author.Count.{below_none}
 use Rattle.decode.specs.Filled.{PlacesAs}
-use Rattle.decode.proofs.Places.{places_more}
-use borrow.Author.Rules.{rules}
 use Rattle.decode.proofs.load_places.Given as goal
 
 abbrev pub invariant-loop-i : goal.invariant-loop-i

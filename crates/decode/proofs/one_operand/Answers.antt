@@ -1,7 +1,6 @@
 -- The operand's own record says whether it is a leaf. Assumes nothing.
 use mathlib.Core.Path.{◌∙◌}
 use Rattle.decode.proofs.Tables.{one_leaf, one_inner}
-use borrow.Author.Rules.{rules}
 use Rattle.decode.proofs.one_operand.Goals as goal
 
 pub returns-then-t-a-eq0 : goal.returns-then-t-a-eq0

@@ -2,7 +2,6 @@
 use native.Mathlib.Omega.{arith}
 use lib.ListN.{length-set}
 use Rattle.decode.proofs.Tables.{fields_put}
-use borrow.Author.Rules.{rules}
 use Rattle.decode.proofs.put_fields.Goals as goal
 
 pub bounds-t-at-2 : goal.bounds-t-at-2

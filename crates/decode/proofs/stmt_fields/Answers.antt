@@ -1,6 +1,5 @@
 -- Each statement by its own rule; what it names is below the bounds of an accepted recipe. Assumes nothing.
 use native.Mathlib.Omega.{arith}
-use borrow.Author.Rules.{rules}
 use Rattle.decode.proofs.stmt_fields.Goals as goal
 
 pub overflow_cast-v : goal.overflow_cast-v

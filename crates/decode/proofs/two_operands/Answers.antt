@@ -1,18 +1,16 @@
-use Rattle.std.proofs.Common.{rules, ◌≡◌, ℕ, ◌+◌, ◌*◌, ◌/◌, ◌<◌, ◌≤◌, length, get_or, ◌-◌, ◌%◌, Bool, true, false, nat_eq, nat_lt, List, [], ◌∷◌, ◌++◌, slice_set, bit_and, bit_or, Fits, w8, w32, w64, Bor, MutBor}
-use Rattle.rules.specs.Bytes.{byte}
-use Rattle.rules.specs.Policy.{policy_of}
-use Rattle.rules.specs.Recipe.{Recipe, recipe_of}
-use Rattle.rules.specs.Memory.{places_of, place_bytes, count}
-use Rattle.rules.specs.Accepted.{StmtOk, WellFormed, LawfulPolicy}
-use Rattle.layout.specs.Tables.{unary_number, binary_number, ExprAs, Decoded}
-use Rattle.layout.specs.Places.{held_from, held_in, ConstantAs}
-use Rattle.decode.specs.Filled.{fields_of, one_operand, two_operands, expr_fields, stmt_fields, FieldsAt, Kept, ExprsAs, StmtsAs, RowAs, JoinsAs, ClearancesAs, PlacesAs, ConstantsAs}
+-- The operands' own records say whether they are leaves. Assumes nothing.
+use mathlib.Core.Path.{◌∙◌}
+use Rattle.decode.proofs.Tables.{two_leaves, first_inner, second_inner}
 use Rattle.decode.proofs.two_operands.Goals as goal
+use Rattle.decode.proofs.two_operands.Goals.{then-t-a-eq0+else-t-b-eq0, else-t-a-eq0}
 
--- src/lib.rt:93:13
 pub returns-then-t-b-eq0 : goal.returns-then-t-b-eq0
-returns-then-t-b-eq0 c = ?
+returns-then-t-b-eq0 c R l m = c.fields_of.ensures ∙ two_leaves R _ _ _ l _ m c.if-t-a-eq0.true c.if-t-b-eq0.true
 
--- src/lib.rt:87:1
 pub returns : goal.returns
-returns c = ?
+returns c R l m =
+    c.fields_of-2.ensures
+    ∙ elim c.if-t-a-eq0.branch [
+      then-t-a-eq0+else-t-b-eq0 w ↦ second_inner R _ _ _ l _ m w.if-t-b-eq0.false
+    | else-t-a-eq0 w ↦ first_inner R _ _ _ l _ m w.if-t-a-eq0.false
+    ]

@@ -1,13 +1,11 @@
 -- The loop's invariant: the memory's places below `i` are those in the array, and all of it are bytes. Assumes nothing.
 use Rattle.layout.specs.Places.{place_in}
-use Rattle.rules.specs.Bytes.{Bytes}
 use Rattle.memory.proofs.Places.{length_placed}
-use Prim.Native.Nat.{◌*◌, ◌-◌, ◌≤◌}
+use Prim.Native.Nat.{◌*◌, ◌≤◌}
 use native.Mathlib.Omega.{arith}
-use mathlib.Core.Path.{◌≡◌, refl, ◌∙◌}
+use mathlib.Core.Path.{refl, ◌∙◌}
 use lib.ListN.{length}
 use borrow.Author.Count.{below_none}
-use Rattle.decode.specs.Filled.{PlacesAs}
 use Rattle.decode.proofs.Places.{back_more, back_done}
 use borrow.Author.Rules.{rules}
 use Rattle.decode.proofs.write_back.Goals as goal

@@ -1,14 +1,8 @@
-use Rattle.layout.specs.Places.{place_in}
 use Rattle.rules.specs.Bytes.{Bytes}
-use Rattle.memory.proofs.Places.{length_placed}
-use Prim.Native.Nat.{◌*◌, ◌-◌, ◌≤◌}
-use native.Mathlib.Omega.{arith}
-use mathlib.Core.Path.{◌≡◌, refl, ◌∙◌}
+use Prim.Native.Nat.{◌-◌, ◌≤◌}
+use mathlib.Core.Path.{◌≡◌}
 use lib.ListN.{length}
-use borrow.Author.Count.{below_none}
 use Rattle.decode.specs.Filled.{PlacesAs}
-use Rattle.decode.proofs.Places.{back_more, back_done}
-use borrow.Author.Rules.{rules}
 use Rattle.decode.proofs.write_back.Given as goal
 
 abbrev pub invariant-loop-i : goal.invariant-loop-i
