@@ -1,6 +1,6 @@
 -- Frame words, the frames held in an array, and what the loop does next. Assumes nothing.
 use Prim.Native.Nat.{ℕ, suc, ◌+◌, ◌-◌, ◌*◌, ◌/◌, ◌%◌, ◌<◌, ◌≤◌}
-use native.Mathlib.Numerals.{add_one, sub_one}
+use native.Mathlib.Numerals.{add-one, sub-one}
 use native.Mathlib.Omega.{arith}
 use mathlib.Core.Path.{◌≡◌, refl, ap, ◌∙◌}
 use mathlib.Core.List.{List, [], ◌∷◌}
@@ -48,7 +48,7 @@ above {st} (more {d} f e k) i w h =
 
 pub pushed : {st : List ℕ} {d : ℕ} {l : List Frame} → Held st d l → (f : Frame) (w : ℕ) → w ≡ word_of f → d + 1 < length st
     → Held (set st (d + 1) w) (d + 1) (f ∷ l)
-pushed {st} {d} h f w e l = rw (add_one d) (more f (get_or-set_same st (suc d) w 0 (omega arith) ∙ e) (above h (suc d) w (omega arith)))
+pushed {st} {d} h f w e l = rw (add-one d) (more f (get_or-set_same st (suc d) w 0 (omega arith) ∙ e) (above h (suc d) w (omega arith)))
 
 -- ---- what is done next
 
@@ -113,7 +113,7 @@ module _ {r p t u : List ℕ} (a : Ready r p t u) where
     pub some : 0 < d
 
   taken : {st : List ℕ} {d : ℕ} {l : List Frame} (f : Frame) → Held st d l → Top st (suc d) Nothing (f ∷ l) f
-  taken {d = d} {l = l} f h = record { rest = l; waits = refl; frames_are = refl; below = rw (sub_one (suc d)) h; some = omega arith }
+  taken {d = d} {l = l} f h = record { rest = l; waits = refl; frames_are = refl; below = rw (sub-one (suc d)) h; some = omega arith }
 
   pub top_next : {st : List ℕ} {d kind s : ℕ} {w : Waiting} {l : List Frame} → WaitingOk (recipe_of r) w → Turned t st d kind s w → Held st d l
       → FramesOk (policy_of p) (recipe_of r) l → kind ≡ 7 → Top st d w l (Next s)

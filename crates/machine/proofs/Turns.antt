@@ -1,7 +1,7 @@
 -- One turn of the loop is one step of the run. Assumes nothing.
 use Prim.Native.Nat.{ℕ, zero, suc, ◌+◌, ◌-◌, ◌*◌, ◌/◌, ◌%◌, ◌<◌, ◌≤◌}
 use native.Mathlib.Nat.{not-suc-le-zero}
-use native.Mathlib.Numerals.{add_one, sub_one}
+use native.Mathlib.Numerals.{add-one, sub-one}
 use native.Mathlib.Omega.{arith}
 use mathlib.Core.Path.{◌≡◌, refl, sym, ap, ◌∙◌, subst}
 use mathlib.Core.Bool.{Bool, true, false}
@@ -53,12 +53,12 @@ module _ (P : Policy) (R : Recipe) (room : ℕ) where
   run_go : (f k : ℕ) (x : State) {y : State} → 0 < f → step P R room x ≡ Goes y → run P R room f k x ≡ run P R room (f - 1) (k + 1) y
   unfolding follow
   run_go zero k x h e = absurd (not-suc-le-zero h)
-  run_go (suc f) k x h e = rw (e, sub_one (suc f), add_one k)
+  run_go (suc f) k x h e = rw (e, sub-one (suc f), add-one k)
 
   run_stop : (f k : ℕ) (x : State) {h : Stop} {s : ℕ} → 0 < f → step P R room x ≡ Halts h s → run P R room f k x ≡ ends (Stopped h s) (k + 1) x
   unfolding follow
   run_stop zero k x h e = absurd (not-suc-le-zero h)
-  run_stop (suc f) k x h e = rw (e, add_one k)
+  run_stop (suc f) k x h e = rw (e, add-one k)
 
   run_done : (f k : ℕ) (x : State) → step P R room x ≡ Finished → run P R room f k x ≡ ends Done k x
   unfolding follow
@@ -139,14 +139,6 @@ while_as BadStmt h k = absurd (not_looping k)
 
 pub lower : {i s n : ℕ} → s < n → i < s → i < n
 lower h l = omega arith
-
-past : (k n : ℕ) → k ≤ n → (n ≡ k → ⊥) → k + 1 ≤ n
-past k n h ne = omega arith
-
--- none of the kinds 0 to 9
-pub last_kind : {n : ℕ} → (n ≡ 0 → ⊥) → (n ≡ 1 → ⊥) → (n ≡ 2 → ⊥) → (n ≡ 3 → ⊥) → (n ≡ 4 → ⊥) → (n ≡ 5 → ⊥) → (n ≡ 6 → ⊥) → (n ≡ 7 → ⊥) → (n ≡ 8 → ⊥) → (n ≡ 9 → ⊥) → 9 < n
-last_kind {n} a b c d e f g h i j =
-    past 9 n (past 8 n (past 7 n (past 6 n (past 5 n (past 4 n (past 3 n (past 2 n (past 1 n (past 0 n (omega arith) a) b) c) d) e) f) g) h) i) j
 
 -- ---- states by their parts
 

@@ -1,5 +1,6 @@
 // The run of accepted tables, and the library's entry, which checks everything and runs.
 #![tactic(auto)]
+
 ghost use Rattle.std.specs.Prelude.{◌≡◌, ◌+◌, ◌*◌, ◌/◌, ◌%◌, ◌<◌, length, get_or};
 ghost use Rattle.rules.specs.Judged.{outcome_of, written_back, ran, checks, judged};
 ghost use Rattle.rules.specs.Accepted.{Accepted};

@@ -1,0 +1,20 @@
+-- A refusal, or the run. Assumes nothing.
+use mathlib.Core.Path.{refl, sym, ◌∙◌}
+use Rattle.rules.proofs.Accepts.{accepted}
+use Rattle.rules.proofs.Demands.{judged_refused, judged_ran}
+use Rattle.machine.proofs.judge.Goals as goal
+
+pub run_accepted-requires : goal.run_accepted-requires
+run_accepted-requires c = accepted _ _ _ (sym c.check-c.ensures ∙ c.in-Passed.is)
+
+pub returns-in-Failed : goal.returns-in-Failed
+returns-in-Failed c =
+    let check = c.check-c in
+    let refuse = c.refuse in
+    rw (judged_refused _ _ _ _ _ (sym check.ensures ∙ c.in-Failed.is)) (record { outcome_is = refuse.ensures; memory_is = refl; room_is = refl })
+
+pub returns-in-Passed : goal.returns-in-Passed
+returns-in-Passed c =
+    let check = c.check-c in
+    let run-accepted = c.run_accepted in
+    rw (judged_ran _ _ _ _ _ (sym check.ensures ∙ c.in-Passed.is)) run-accepted.ensures
