@@ -1,5 +1,6 @@
 // Filling the arrays that the run reads, once, from accepted tables; and the memory's bytes from them at the end.
 #![tactic(auto)]
+
 ghost use Rattle.std.specs.Prelude.{◌≡◌, ℕ, ◌+◌, ◌*◌, ◌/◌, ◌<◌, ◌≤◌, length, get_or};
 ghost use Rattle.rules.specs.Bytes.{byte};
 ghost use Rattle.rules.specs.Policy.{policy_of};

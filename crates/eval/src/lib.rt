@@ -1,6 +1,7 @@
 // Evaluation over the decoded tables t and the places u: an expression's value with its tag, or the fault that ends the run, as
 // one word, so that it stays in a register. A place is held as such a word too.
 #![tactic(auto)]
+
 ghost use Rattle.std.specs.Prelude.{◌≡◌, ◌+◌, ◌-◌, ◌*◌, ◌/◌, ◌%◌, ◌<◌, ◌≤◌, get_or};
 ghost use Rattle.layout.specs.Tables.{join_in};
 ghost use Rattle.layout.specs.Places.{ExprGiven, Answered};

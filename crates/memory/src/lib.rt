@@ -1,5 +1,6 @@
 // Places, records and the report's numbers as bytes, and the memory's check.
 #![tactic(auto)]
+
 ghost use Rattle.std.specs.Prelude.{◌≡◌, ◌+◌, ◌*◌, ◌^◌, ◌<◌, length};
 ghost use Rattle.rules.specs.Bytes.{byte, whole};
 ghost use Rattle.rules.specs.Recipe.{Recipe};

@@ -11,6 +11,6 @@ pub returns : goal.returns
 returns c R l m =
     c.fields_of-2.ensures
     ∙ elim c.if-t-a-eq0.branch [
-      then-t-a-eq0+else-t-b-eq0 w ↦ second_inner R _ _ _ l _ m w.if-t-b-eq0.false
-    | else-t-a-eq0 w ↦ first_inner R _ _ _ l _ m w.if-t-a-eq0.false
+      | then-t-a-eq0+else-t-b-eq0 w ↦ second_inner R _ _ _ l _ m w.if-t-b-eq0.false
+      | else-t-a-eq0 w ↦ first_inner R _ _ _ l _ m w.if-t-a-eq0.false
     ]

@@ -1,6 +1,5 @@
 -- Document 01's table, case by case. Assumes nothing.
 use Rattle.rules.specs.Ends.{end_place}
-use borrow.Author.Rules.{rules}
 use Rattle.ends.proofs.end_place.Goals as goal
 
 pub returns-in-Done : goal.returns-in-Done

@@ -1,6 +1,5 @@
 -- Document 01's table, case by case. Assumes nothing.
 use Rattle.rules.specs.Ends.{refusal_number}
-use borrow.Author.Rules.{rules}
 use Rattle.ends.proofs.refusal_number.Goals as goal
 
 pub returns-in-RecipeLength : goal.returns-in-RecipeLength

@@ -1,6 +1,5 @@
 -- Document 01's table, case by case. Assumes nothing.
 use Rattle.rules.specs.Ends.{stop_number}
-use borrow.Author.Rules.{rules}
 use Rattle.ends.proofs.stop_number.Goals as goal
 
 pub returns-in-AssignTag : goal.returns-in-AssignTag

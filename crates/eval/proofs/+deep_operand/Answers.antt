@@ -1,7 +1,6 @@
 -- An operator's answer follows from its operands', whose numbers are lower. Assumes nothing.
 use native.Mathlib.Omega.{arith}
 use Rattle.eval.proofs.Values.{left_lower, left_there, right_lower, right_there, left_fault, one_asks, one_value, right_fault, two_asks, two_value}
-use Prim.Native.Nat.{ℕ, ◌+◌, ◌*◌, ◌<◌}
 use Rattle.eval.proofs.+deep_operand.Goals as goal
 
 pub deep-overflow_mul-k : goal.deep-overflow_mul-k

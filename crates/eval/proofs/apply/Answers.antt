@@ -9,7 +9,6 @@ use Rattle.rules.specs.Ends.{stop_number}
 use Rattle.rules.specs.Steps.{given}
 use Rattle.layout.specs.Tables.{unary_from, binary_from}
 use Rattle.eval.specs.Packed.{word_in, applied_in}
-use borrow.Author.Rules.{rules}
 use Rattle.eval.proofs.apply.Goals as goal
 
 pub cell-requires : goal.cell-requires

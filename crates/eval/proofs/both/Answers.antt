@@ -1,5 +1,4 @@
 -- The tags are joined and packed with the word. Assumes nothing.
-use borrow.Author.Rules.{rules}
 use Rattle.eval.proofs.both.Goals as goal
 
 pub join-requires : goal.join-requires

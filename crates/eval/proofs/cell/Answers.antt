@@ -7,7 +7,6 @@ use Rattle.rules.specs.Memory.{value_of, tag_of}
 use Rattle.rules.specs.Steps.{given}
 use Rattle.rules.specs.Ends.{stop_number}
 use Rattle.eval.specs.Packed.{word_in}
-use borrow.Author.Rules.{rules}
 use Rattle.eval.proofs.cell.Goals as goal
 
 pub overflow_cast-t : goal.overflow_cast-t

@@ -4,23 +4,18 @@ use native.Mathlib.Omega.{arith}
 use mathlib.Core.Path.{◌≡◌, sym}
 use mathlib.Core.List.{[], ◌∷◌}
 use lib.ListN.{get_or-eq_default}
-use borrow.Author.Rules.{rules}
 use Rattle.rules.specs.declared.Stop.TheVariants.{AssignTag, StoreTag, EmitTag, Index, Divisor, Room, Frames}
 use Rattle.layout.specs.Answers.{stop_from}
 use Rattle.eval.proofs.stop_of.Goals as goal
 
 first : (n : ℕ) → n < 3 → AssignTag ≡ stop_from n
-
 unfolding stop_from
-
 first n l =
     let e : n - 2 ≡ 0 = omega arith in
     rw e
 
 last : (n : ℕ) → 8 ≤ n → Frames ≡ stop_from n
-
 unfolding stop_from
-
 last n l =
     let m : 6 ≤ n - 2 = omega arith in
     sym (get_or-eq_default (AssignTag ∷ StoreTag ∷ EmitTag ∷ Index ∷ Divisor ∷ Room ∷ []) Frames m)

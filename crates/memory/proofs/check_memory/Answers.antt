@@ -1,8 +1,7 @@
 -- The loop passes places whose tags are below the policy's count, until one is not. Assumes nothing.
-use Prim.Native.Nat.{◌≤◌, ◌-◌}
 use native.Mathlib.Omega.{arith}
 use Rattle.rules.proofs.Checks.{up_none, up_more}
-use Rattle.memory.proofs.Check.{Below, tag_passes, wrong_length, wrong_tag, right_tags}
+use Rattle.memory.proofs.Check.{tag_passes, wrong_length, wrong_tag, right_tags}
 use Rattle.memory.proofs.check_memory.Goals as goal
 
 pub returns-then-m-count : goal.returns-then-m-count

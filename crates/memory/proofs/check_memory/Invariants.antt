@@ -1,7 +1,5 @@
 use Prim.Native.Nat.{◌≤◌, ◌-◌}
-use native.Mathlib.Omega.{arith}
-use Rattle.rules.proofs.Checks.{up_none, up_more}
-use Rattle.memory.proofs.Check.{Below, tag_passes, wrong_length, wrong_tag, right_tags}
+use Rattle.memory.proofs.Check.{Below}
 use Rattle.memory.proofs.check_memory.Given as goal
 
 abbrev pub invariant-loop-i : goal.invariant-loop-i

@@ -1,7 +1,6 @@
 -- The two bytes of a 16-bit number are set from byte o. Assumes nothing.
 use mathlib.Core.Path.{refl}
 use Rattle.memory.specs.Layout.{stored_half}
-use borrow.Author.Rules.{rules}
 use Rattle.memory.proofs.put_half.Goals as goal
 
 pub returns : goal.returns

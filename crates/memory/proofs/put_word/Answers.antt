@@ -3,7 +3,6 @@ use native.Mathlib.Omega.{arith}
 use mathlib.Core.Path.{refl}
 use lib.ListN.{length-set}
 use Rattle.memory.specs.Layout.{stored}
-use borrow.Author.Rules.{rules}
 use Rattle.memory.proofs.put_word.Goals as goal
 
 pub bounds-b-o-2 : goal.bounds-b-o-2

@@ -1,5 +1,4 @@
 -- `policy::associates` meets its contract. Assumes nothing.
-use borrow.Author.Rules.{rules}
 use Rattle.policy.proofs.associates.Goals as goal
 
 pub returns : goal.returns

@@ -1,6 +1,5 @@
 -- `policy::check_policy` meets its contract: each answer is the first check that fails. Assumes nothing.
 use mathlib.Core.Path.{sym, ◌∙◌}
-use borrow.Author.Rules.{rules}
 use Rattle.rules.specs.Policy.{check_policy}
 use Rattle.rules.proofs.Checks.{passes, fails, next, stops}
 use Rattle.rules.proofs.Tests.{denied, held}

@@ -1,6 +1,5 @@
 -- `policy::clearance` meets its contract: the byte past the joins, which the check of the entries found below n. Assumes nothing.
 use native.Mathlib.Omega.{arith}
-use borrow.Author.Rules.{rules}
 use Rattle.policy.proofs.Shape.{clearance_below}
 use Rattle.policy.proofs.clearance.Goals as goal
 

@@ -1,6 +1,5 @@
 -- `policy::entry` meets its contract: the byte at the entry's spot, which the check of the entries found below n. Assumes nothing.
 use native.Mathlib.Omega.{arith}
-use borrow.Author.Rules.{rules}
 use Rattle.policy.proofs.Shape.{join_below}
 use Rattle.policy.proofs.entry.Goals as goal
 

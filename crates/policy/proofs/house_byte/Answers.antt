@@ -1,6 +1,5 @@
 -- `policy::house_byte` meets its contract: antt compares the constants with the definitions' lists, all 256 joins at once. Assumes nothing.
 use mathlib.Core.Path.{sym}
-use borrow.Author.Rules.{rules}
 use Rattle.rules.specs.Policy.{house_header, house_joins}
 use Rattle.policy.proofs.House.{in_header, in_joins, in_clearances}
 use Rattle.policy.proofs.house_byte.Goals as goal

@@ -1,10 +1,8 @@
 -- `policy::house_policy` meets its contract. The loop's invariant: the first `k` bytes are the policy's, the rest is as it was. Assumes nothing.
-use Prim.Native.Nat.{◌-◌, ◌≤◌}
 use native.Mathlib.Omega.{arith}
 use mathlib.Core.Path.{◌≡◌, refl}
 use borrow.Author.Rules.{rules}
-use lib.ListN.{length}
-use Rattle.policy.proofs.House.{written, written_more, no_room, room}
+use Rattle.policy.proofs.House.{written_more, no_room, room}
 use Rattle.policy.proofs.house_policy.Goals as goal
 
 pub returns-then-out-lt266 : goal.returns-then-out-lt266

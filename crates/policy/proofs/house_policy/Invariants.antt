@@ -1,9 +1,7 @@
 use Prim.Native.Nat.{◌-◌, ◌≤◌}
-use native.Mathlib.Omega.{arith}
-use mathlib.Core.Path.{◌≡◌, refl}
-use borrow.Author.Rules.{rules}
+use mathlib.Core.Path.{◌≡◌}
 use lib.ListN.{length}
-use Rattle.policy.proofs.House.{written, written_more, no_room, room}
+use Rattle.policy.proofs.House.{written}
 use Rattle.policy.proofs.house_policy.Given as goal
 
 abbrev pub invariant-loop-k : goal.invariant-loop-k

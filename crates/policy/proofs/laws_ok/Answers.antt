@@ -1,11 +1,8 @@
 -- `policy::laws_ok` meets its contract. Each loop's invariant: the laws hold at every triple passed. Assumes nothing.
-use Prim.Native.Nat.{ℕ, ◌-◌, ◌<◌, ◌≤◌}
 use native.Mathlib.Omega.{arith}
-use mathlib.Core.Path.{◌≡◌, refl, sym, ◌∙◌}
-use mathlib.Core.Bool.{true}
+use mathlib.Core.Path.{refl, sym, ◌∙◌}
 use borrow.Author.Rules.{rules}
 use borrow.Author.Count.{below_none, below_more}
-use Rattle.rules.specs.Policy.{policy_of, law_at}
 use Rattle.rules.proofs.Tests.{denied, held}
 use Rattle.policy.proofs.Laws.{law_holds, no_pair, no_triple, laws_hold, law_broken}
 use Rattle.policy.proofs.laws_ok.Goals as goal

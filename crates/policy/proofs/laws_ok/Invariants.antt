@@ -1,12 +1,7 @@
 use Prim.Native.Nat.{ℕ, ◌-◌, ◌<◌, ◌≤◌}
-use native.Mathlib.Omega.{arith}
-use mathlib.Core.Path.{◌≡◌, refl, sym, ◌∙◌}
+use mathlib.Core.Path.{◌≡◌}
 use mathlib.Core.Bool.{true}
-use borrow.Author.Rules.{rules}
-use borrow.Author.Count.{below_none, below_more}
 use Rattle.rules.specs.Policy.{policy_of, law_at}
-use Rattle.rules.proofs.Tests.{denied, held}
-use Rattle.policy.proofs.Laws.{law_holds, no_pair, no_triple, laws_hold, law_broken}
 use Rattle.policy.proofs.laws_ok.Given as goal
 
 abbrev pub invariant-loop-w : goal.invariant-loop-w

@@ -1,6 +1,5 @@
 -- `policy::pair_ok` meets its contract: the first law that is broken decides. Assumes nothing.
 use mathlib.Core.Path.{◌≡◌}
-use borrow.Author.Rules.{rules}
 use borrow.Author.Tests.{eq-eqb, ne_eqb}
 use Rattle.rules.specs.Checks.{◌and◌}
 use Rattle.rules.specs.Policy.{policy_of}

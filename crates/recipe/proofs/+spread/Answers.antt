@@ -1,8 +1,6 @@
 -- `recipe::spread` meets its contract. The measure is the expression's own number, and its operands' are lower. Assumes nothing.
-use Prim.Native.Nat.{ℕ, ◌<◌}
 use native.Mathlib.Omega.{arith}
 use mathlib.Core.Path.{sym, ◌∙◌}
-use borrow.Author.Rules.{rules}
 use Rattle.rules.specs.Recipe.{spread_by}
 use Rattle.recipe.proofs.Spreads.{lower, operands, spread_is}
 use Rattle.recipe.proofs.+spread.Goals as goal

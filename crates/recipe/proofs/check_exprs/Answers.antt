@@ -1,11 +1,7 @@
 -- `recipe::check_exprs` meets its contract. The invariant: every expression passed is well-formed and narrow. Assumes nothing.
-use Prim.Native.Nat.{◌≤◌, ◌-◌}
 use native.Mathlib.Omega.{arith}
-use mathlib.Core.Path.{◌≡◌, sym, ◌∙◌}
+use mathlib.Core.Path.{sym, ◌∙◌}
 use borrow.Author.Tests.{le-leb, lt-leb}
-use Rattle.rules.specs.declared.Checked.TheVariants.{Passed}
-use Rattle.rules.specs.Checks.{up_to}
-use Rattle.rules.specs.Recipe.{recipe_of, check_expr}
 use Rattle.rules.proofs.Checks.{passes, fails, next, stops, both_pass, up_none, up_more, up_stops}
 use Rattle.rules.proofs.Tests.{denied, held}
 use Rattle.recipe.proofs.Order.{finished}

@@ -1,6 +1,5 @@
 -- `recipe::check_header` meets its contract: the first test that fails decides. Assumes nothing.
 use native.Mathlib.Omega.{arith}
-use borrow.Author.Rules.{rules}
 use Rattle.rules.proofs.Tests.{denied, held}
 use Rattle.recipe.proofs.Order.{too_short, no_mark, no_version, no_zeros, no_counts, no_length, header}
 use Rattle.recipe.proofs.check_header.Goals as goal

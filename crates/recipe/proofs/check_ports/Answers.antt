@@ -1,11 +1,7 @@
 -- `recipe::check_ports` meets its contract. The invariant: every statement passed names a port that is there. Assumes nothing.
-use Prim.Native.Nat.{◌≤◌, ◌-◌}
 use native.Mathlib.Omega.{arith}
-use mathlib.Core.Path.{◌≡◌, sym}
-use Rattle.rules.specs.declared.Checked.TheVariants.{Passed}
-use Rattle.rules.specs.declared.Refusal.TheVariants.{BadPort}
-use Rattle.rules.specs.Checks.{require, up_to}
-use Rattle.rules.specs.Recipe.{recipe_of, port_ok, check_ports}
+use mathlib.Core.Path.{sym}
+use Rattle.rules.specs.Recipe.{check_ports}
 use Rattle.rules.proofs.Checks.{passes, fails, up_none, up_more, up_stops}
 use Rattle.rules.proofs.Tests.{denied, held}
 use Rattle.recipe.proofs.Order.{finished}

@@ -1,13 +1,9 @@
 use Prim.Native.Nat.{◌≤◌, ◌-◌}
-use native.Mathlib.Omega.{arith}
-use mathlib.Core.Path.{◌≡◌, sym}
+use mathlib.Core.Path.{◌≡◌}
 use Rattle.rules.specs.declared.Checked.TheVariants.{Passed}
 use Rattle.rules.specs.declared.Refusal.TheVariants.{BadPort}
 use Rattle.rules.specs.Checks.{require, up_to}
-use Rattle.rules.specs.Recipe.{recipe_of, port_ok, check_ports}
-use Rattle.rules.proofs.Checks.{passes, fails, up_none, up_more, up_stops}
-use Rattle.rules.proofs.Tests.{denied, held}
-use Rattle.recipe.proofs.Order.{finished}
+use Rattle.rules.specs.Recipe.{recipe_of, port_ok}
 use Rattle.recipe.proofs.check_ports.Given as goal
 
 abbrev pub invariant-loop-s : goal.invariant-loop-s

@@ -1,7 +1,6 @@
 -- `recipe::check_recipe` meets its contract: the header, then the expressions, then the statements. Assumes nothing.
 use native.Mathlib.Omega.{arith}
 use mathlib.Core.Path.{sym, ◌∙◌}
-use borrow.Author.Rules.{rules}
 use Rattle.rules.proofs.Checks.{next, stops}
 use Rattle.recipe.proofs.Order.{exact, whole}
 use Rattle.recipe.proofs.check_recipe.Goals as goal

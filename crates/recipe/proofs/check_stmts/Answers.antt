@@ -1,10 +1,6 @@
 -- `recipe::check_stmts` meets its contract. The invariant: every statement passed is well-formed. Assumes nothing.
-use Prim.Native.Nat.{◌≤◌, ◌-◌}
 use native.Mathlib.Omega.{arith}
-use mathlib.Core.Path.{◌≡◌, sym}
-use Rattle.rules.specs.declared.Checked.TheVariants.{Passed}
-use Rattle.rules.specs.Checks.{up_to}
-use Rattle.rules.specs.Recipe.{recipe_of, check_stmt}
+use mathlib.Core.Path.{sym}
 use Rattle.rules.proofs.Checks.{passes, fails, up_none, up_more, up_stops}
 use Rattle.rules.proofs.Tests.{denied, held}
 use Rattle.recipe.proofs.Order.{finished}

@@ -1,6 +1,5 @@
 -- `recipe::counts_ok` meets its contract: the first limit that is passed decides. Assumes nothing.
 use native.Mathlib.Omega.{arith}
-use borrow.Author.Rules.{rules}
 use borrow.Author.Tests.{le-leb, lt-leb}
 use Rattle.rules.specs.Bytes.{half}
 use Rattle.rules.specs.Checks.{◌and◌}

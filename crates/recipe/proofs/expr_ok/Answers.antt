@@ -1,5 +1,4 @@
 -- `recipe::expr_ok` meets its contract, kind by kind. Assumes nothing.
-use borrow.Author.Rules.{rules}
 use borrow.Author.Tests.{lt-ltb, le-ltb}
 use Rattle.rules.specs.Checks.{◌and◌}
 use Rattle.rules.specs.Recipe.{expr_ok}

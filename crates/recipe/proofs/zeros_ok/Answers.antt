@@ -1,5 +1,4 @@
 -- `recipe::zeros_ok` meets its contract. Assumes nothing.
-use borrow.Author.Rules.{rules}
 use borrow.Author.Tests.{eq-eqb, ne_eqb}
 use Rattle.rules.specs.Checks.{◌and◌}
 use Rattle.rules.specs.Recipe.{zeros_ok}

@@ -4,7 +4,6 @@ use Rattle.rules.specs.Memory.{value_of, tag_of}
 use Rattle.rules.specs.Ends.{stop_number}
 use Rattle.rules.specs.Steps.{allow}
 use Rattle.steps.proofs.Asked.{word_is, tag_is, var_in, held_good, join_given, join_is, held_under, held_off, same_below}
-use borrow.Author.Rules.{rules}
 use Rattle.steps.proofs.assign.Goals as goal
 
 pub join-requires : goal.join-requires

@@ -1,5 +1,4 @@
 -- The branch tag and the value's are held against the clearance. Assumes nothing.
-use borrow.Author.Rules.{rules}
 use Rattle.steps.proofs.may_emit.Goals as goal
 
 pub join-requires : goal.join-requires

@@ -1,5 +1,4 @@
 -- A place is held as its answer. Assumes nothing.
-use borrow.Author.Rules.{rules}
 use Rattle.steps.proofs.put_place.Goals as goal
 
 pub returns : goal.returns

@@ -1,7 +1,6 @@
 -- The index comes before the value. Assumes nothing.
 use mathlib.Core.Path.{refl, ◌∙◌}
 use Rattle.steps.proofs.Asked.{value_found, value_lost, tag_found}
-use borrow.Author.Rules.{rules}
 use Rattle.steps.proofs.store.Goals as goal
 
 pub returns-then-x-ge-FAULT : goal.returns-then-x-ge-FAULT

@@ -4,7 +4,6 @@ use Rattle.rules.specs.Memory.{value_of, tag_of}
 use Rattle.rules.specs.Ends.{stop_number}
 use Rattle.rules.specs.Steps.{allow}
 use Rattle.steps.proofs.Asked.{index_off, index_in, cell_is, cell_in_lem, held_given, held_good, join_given, join_is, join_good, held_under, held_off, same_below}
-use borrow.Author.Rules.{rules}
 use Rattle.steps.proofs.store_at.Goals as goal
 
 pub returns-then-t-word_of : goal.returns-then-t-word_of

@@ -1,5 +1,5 @@
 -- `abs` meets its contract, by the sign of `a`. Assumes nothing.
-use Rattle.std.proofs.Common.{sym, arith, rules}
+use Rattle.std.proofs.Common.{sym, arith}
 use Rattle.words.proofs.Magnitude.{absolute_low, absolute_high}
 use Rattle.words.proofs.abs.Goals as goal
 

@@ -1,5 +1,5 @@
 -- `add` meets its contract: the sum of two words wraps to the word of the sum. Assumes nothing.
-use Rattle.std.proofs.Common.{arith, rules}
+use Rattle.std.proofs.Common.{arith}
 use Rattle.words.proofs.Magnitude.{sum_is}
 use Rattle.words.proofs.add.Goals as goal
 

@@ -1,5 +1,5 @@
 -- `div` meets its contract, by the signs of `a` and `b`. Assumes nothing.
-use Rattle.std.proofs.Common.{arith, rules}
+use Rattle.std.proofs.Common.{arith}
 use Rattle.words.proofs.Magnitude.{absolute_positive, quotient_low_low, quotient_low_high, quotient_high_low, quotient_high_high}
 use Rattle.words.proofs.div.Goals as goal
 

@@ -1,5 +1,4 @@
 -- `is_equal` meets its contract, which is what `bit` ensures. Assumes nothing.
-use Rattle.std.proofs.Common.{rules}
 use Rattle.words.specs.Word.{equal}
 use Rattle.words.proofs.is_equal.Goals as goal
 

@@ -1,5 +1,4 @@
 -- `is_less` meets its contract: raised words are in the order of their integers. Assumes nothing.
-use Rattle.std.proofs.Common.{rules}
 use Rattle.words.proofs.Magnitude.{less_is}
 use Rattle.words.proofs.is_less.Goals as goal
 

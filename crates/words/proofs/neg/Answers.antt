@@ -1,5 +1,5 @@
 -- `neg` meets its contract: what added to `a` wraps to 0 is its negation. Assumes nothing.
-use Rattle.std.proofs.Common.{arith, rules}
+use Rattle.std.proofs.Common.{arith}
 use Rattle.words.proofs.Magnitude.{negated_is}
 use Rattle.words.proofs.neg.Goals as goal
 

@@ -1,5 +1,4 @@
 -- `not` meets its contract, which is what `bit` ensures. Assumes nothing.
-use Rattle.std.proofs.Common.{rules}
 use Rattle.words.specs.Word.{denied}
 use Rattle.words.proofs.not.Goals as goal
 

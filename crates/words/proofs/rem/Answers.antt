@@ -1,5 +1,5 @@
 -- `rem` meets its contract, by the sign of `a`. Assumes nothing.
-use Rattle.std.proofs.Common.{arith, rules}
+use Rattle.std.proofs.Common.{arith}
 use Rattle.words.proofs.Magnitude.{absolute_positive, remainder_low, remainder_high}
 use Rattle.words.proofs.rem.Goals as goal
 
