@@ -1,5 +1,6 @@
-// The C host's entries, the only exports: include/vraduceni.h declares them.
+// The C host's entries. Crate vraduceni_c exports them, and include/vraduceni.h declares them.
 #![tactic(auto)]
+
 ghost use Rattle.std.specs.Prelude.{◌≡◌, ◌<◌, ◌≤◌, ◌++◌, length, drop};
 ghost use Rattle.rules.specs.Ends.{end_number, end_place};
 ghost use Rattle.rules.specs.Judged.{host_budget, report_bytes, hosted, house_asked};
@@ -28,8 +29,7 @@ fn put_report(report: &mut [u8], o: Outcome)
     memory::put_word(report, 8, o.records);
 }
 
-#[unsafe(no_mangle)]
-pub extern "C" fn vraduceni_judge(
+pub fn vraduceni_judge(
     recipe: &[u8],
     policy: &[u8],
     memory: &mut [u8],
@@ -48,8 +48,7 @@ pub extern "C" fn vraduceni_judge(
     ends::end_number(end)
 }
 
-#[unsafe(no_mangle)]
-pub extern "C" fn vraduceni_house_policy(out: &mut [u8]) -> u32
+pub fn vraduceni_house_policy(out: &mut [u8]) -> u32
     ensures { (result ≡ (house_asked out.old).number) × (out.new ≡ (house_asked out.old).buffer) }
 {
     policy::house_policy(out)
