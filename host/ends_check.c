@@ -10,8 +10,8 @@
  * What is read:
  *   page         headings "## N name", the name in small letters
  *   header       lines "VRADUCENI_END_NAME = N" and "VRADUCENI_REFUSAL_NAME = N"
- *   definitions  lines "endNumber Name = N", "stopNumber Name = N" and
- *                "refusalNumber Name = N", the name perhaps with arguments in
+ *   definitions  lines "end_number Name = N", "stop_number Name = N" and
+ *                "refusal_number Name = N", the name perhaps with arguments in
  *                parentheses
  * A name is compared as small words: AssignTag, ASSIGN_TAG, "assign tag".
  *
@@ -242,7 +242,7 @@ static void read_header(struct list *l, const char *path)
 
 static void read_definitions(struct list *l, const char *path)
 {
-    static const char *const beginnings[] = { "endNumber ", "stopNumber ", "refusalNumber " };
+    static const char *const beginnings[] = { "end_number ", "stop_number ", "refusal_number " };
     struct lines file;
     char *line;
     l->source = path;
@@ -267,8 +267,8 @@ static void read_definitions(struct list *l, const char *path)
                 continue;
             }
             equals = skip_blanks(equals + 1);
-            /* "endNumber (Stopped h s) = stopNumber h" sends on to another list */
-            if (after(equals, "stopNumber ") != NULL || after(equals, "refusalNumber ") != NULL) {
+            /* "end_number (Stopped h s) = stop_number h" sends on to another list */
+            if (after(equals, "stop_number ") != NULL || after(equals, "refusal_number ") != NULL) {
                 continue;
             }
             if (!read_number(&equals, &number)) {

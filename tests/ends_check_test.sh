@@ -40,7 +40,7 @@ spoil_definitions() { sed "$2" "$definitions" > "$spoiled/definitions"; refused 
 for n in $(sed -n 's/^## \([0-9][0-9]*\) .*/\1/p' "$page"); do
     spoil_page "number $n missing" "/^## $n /d"
     spoil_header "number $n missing" "/^ *VRADUCENI_[A-Z_]* = ${n}[, ]/d"
-    spoil_definitions "number $n missing" "/Number .* = $n\$/d"
+    spoil_definitions "number $n missing" "/_number .* = $n\$/d"
 done
 
 # A number too many, another number, another name, a refusal called an end.
@@ -55,10 +55,10 @@ spoil_header "a number too many" 's/^\( *\)VRADUCENI_END_FRAMES = 8,/&\
 spoil_header "another number" 's/VRADUCENI_END_FRAMES = 8/VRADUCENI_END_FRAMES = 9/'
 spoil_header "another name" 's/VRADUCENI_REFUSAL_BAD_PORT/VRADUCENI_REFUSAL_NO_PORT/'
 spoil_header "a refusal called an end" 's/VRADUCENI_REFUSAL_BAD_PORT/VRADUCENI_END_BAD_PORT/'
-spoil_definitions "a number too many" 's/^stopNumber Frames = 8$/&\
-stopNumber Calls = 9/'
-spoil_definitions "another number" 's/^stopNumber Frames = 8$/stopNumber Frames = 9/'
-spoil_definitions "another name" 's/^refusalNumber RecipeMark = 17$/refusalNumber RecipeStamp = 17/'
+spoil_definitions "a number too many" 's/^stop_number Frames = 8$/&\
+stop_number Calls = 9/'
+spoil_definitions "another number" 's/^stop_number Frames = 8$/stop_number Frames = 9/'
+spoil_definitions "another name" 's/^refusal_number RecipeMark = 17$/refusal_number RecipeStamp = 17/'
 
 # Examples: another result in each field, another input, a line missing.
 spoil_page "another end" 's/^gives: 2 1 2 0$/gives: 3 1 2 0/'
