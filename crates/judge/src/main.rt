@@ -1,7 +1,7 @@
 // The thin program: reads recipe.bin, policy.bin and memory.bin, runs them, and prints end, place, steps and records.
 #![tactic(auto)]
 
-ghost use Rattle.std.specs.Prelude.{◌≤◌, length};
+ghost use Rattle.std.specs.Prelude.{◌≡◌, ◌≤◌, length, take};
 
 use std::fs::File;
 use std::io;
@@ -11,7 +11,7 @@ use std::rt::Files;
 // What the file holds, as far as the buffer goes; a missing file counts as empty, and a failed read as the file's end. Each
 // buffer has one byte more than the longest accepted length, so that a longer file is refused as any longer buffer is.
 fn load(rt: &impl Files, path: &str, buf: &mut [u8]) -> usize
-    ensures { result ≤ length buf.new }
+    ensures { (result ≤ length buf.new) × (result ≡ length (take result buf.new)) }
 {
     let Ok(mut file) = File::open(rt, path) else {
         return 0;
