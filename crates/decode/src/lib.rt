@@ -14,7 +14,7 @@ ghost use Rattle.decode.specs.Filled.{fields_of, one_operand, two_operands, expr
 use rules::{BinaryOp, Expr, Place, Stmt, UnaryOp};
 
 // A decoded record: what it is, and the numbers that it names.
-#[derive(Drop)]
+#[derive(Clone, Copy)]
 struct Fields {
     kind: u16,
     first: u16,
@@ -85,6 +85,7 @@ fn one_operand(t: &[u16], k: u16, a: usize) -> Fields
 }
 
 // Both operands are named by their places, or neither.
+#[tactic(auto, using(crate::proofs::Tables::two_leaves, crate::proofs::Tables::first_inner, crate::proofs::Tables::second_inner))]
 fn two_operands(t: &[u16], k: u16, a: usize, b: usize) -> Fields
     requires { (k < 16) × (a < 1024) × (b < 1024) × (length t.now ≡ 8466) }
     ensures { (R : Recipe) → ExprAs R t.now a (R.expr_at a) → ExprAs R t.now b (R.expr_at b) → result ≡ two_operands R k a b }

@@ -13,6 +13,9 @@ use rules::Stop;
 // From here on an answer is a fault, whose number is counted from here.
 pub const FAULT: u64 = 9223372036854775808;
 
+// From here on an operator has two operands.
+const BINARY: u16 = 5;
+
 // ---- answers
 
 pub fn word_of(x: u64) -> u32
@@ -179,7 +182,7 @@ fn deep(t: &[u16; 8466], u: &[u64; 2112], e: usize) -> u64
     if FAULT <= x {
         return x;
     }
-    if k < 5 {
+    if k < BINARY {
         return apply(t, u, k, x, x);
     }
     let y = operand(t, u, t[4 * e + 2] as usize);

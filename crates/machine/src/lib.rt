@@ -19,7 +19,7 @@ const LOOP: u32 = 9;
 const EMPTY: u32 = 81920;
 
 // The stack's words; under the frames lies an empty word, which ends the run when it is taken.
-#[derive(Drop)]
+#[derive(Clone, Copy)]
 pub struct State {
     pub stack: [u32; 513],
 }

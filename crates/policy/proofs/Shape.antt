@@ -47,6 +47,9 @@ header p h =
 pub no_header : (p : List ℕ) → (Headed p → ⊥) → policy_header_ok p ≡ false
 no_header p f = fails _ (λ e. absurd (f (headed p e)))
 
+pub many_tags : (p : List ℕ) → 16 < byte p 6 → policy_header_ok p ≡ false
+many_tags p l = no_header p (λ h. omega (arith, h.few_tags))
+
 pub filled : (p : List ℕ) → Headed p → up_to (byte p 6 * byte p 6 + byte p 7) (check_entry p) ≡ Passed → Filled p
 filled p h e =
     record { headed = h; entries = λ i l. ltb-true _ _ (required _ _ (up_each _ (check_entry p) e i l)) }

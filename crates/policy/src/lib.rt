@@ -60,6 +60,7 @@ pub fn clearance(p: &[u8], port: u8) -> u8
 // ---- the check
 
 // Bytes are read only where the header is there; the length comes last, since it is made of the counts.
+#[tactic(auto, using(crate::proofs::Shape::many_tags))]
 fn header_ok(p: &[u8]) -> bool
     ensures { result ≡ policy_header_ok p.now }
 {
@@ -213,6 +214,7 @@ fn house_byte(k: usize) -> u8
 }
 
 // 29 where the buffer is too short, with nothing written.
+#[tactic(auto, using(crate::proofs::House::no_room))]
 pub fn house_policy(out: &mut [u8]) -> u32
     ensures { (result ≡ (house_asked out.old).number) × (out.new ≡ (house_asked out.old).buffer) }
 {

@@ -2,18 +2,19 @@
 use Prim.Native.Nat.{ℕ, zero, suc, ◌+◌, ◌*◌, ◌<◌, ◌≤◌}
 use native.Mathlib.Decide.{dec_lt}
 use native.Mathlib.Omega.{arith}
-use mathlib.Core.Path.{◌≡◌, refl, sym}
+use mathlib.Core.Path.{◌≡◌, refl, sym, ◌∙◌}
 use mathlib.Core.Bool.{true}
 use mathlib.Core.List.{List}
 use lib.ListN.{length}
-use borrow.Author.Tests.{leb-true}
+use borrow.Author.Tests.{leb-true, lt-leb}
 use Rattle.rules.specs.declared.Expr.{Expr}
 use Rattle.rules.specs.declared.Expr.TheVariants.{Constant, Variable, Cell, Unary, Binary, BadExpr}
-use Rattle.rules.specs.declared.Checked.TheVariants.{Passed}
+use Rattle.rules.specs.declared.Refusal.TheVariants.{WideExpression}
+use Rattle.rules.specs.declared.Checked.TheVariants.{Passed, Failed}
 use Rattle.rules.specs.Checks.{up_to}
 use Rattle.rules.specs.Recipe.{Recipe, recipe_of, expr_ok, spread_by, spread_within, spread, check_expr}
 use Rattle.rules.specs.Accepted.{ExprOk}
-use Rattle.rules.proofs.Checks.{required, first, second, up_each}
+use Rattle.rules.proofs.Checks.{required, first, second, passes, fails, next, up_each, up_stops}
 use Rattle.rules.proofs.Accepts.{expr_ok_lem}
 use Rattle.recipe.specs.Reached.{Reached}
 
@@ -78,3 +79,8 @@ reached r e long before own =
     by_place a l (no h) =
         let q : a ≡ e = omega arith in
         rw q (expr_ok_lem _ _ _ own)
+
+-- the first expression that is wide decides
+pub too_wide : (R : Recipe) (n e : ℕ) → e < n → up_to e (check_expr R) ≡ Passed → expr_ok R.vars e (R.expr_at e) ≡ true → 256 < spread R e
+    → up_to n (check_expr R) ≡ Failed (WideExpression e)
+too_wide R n e l before ok wide = up_stops n e _ l before (next _ (passes _ ok) ∙ fails _ (lt-leb _ _ wide))

@@ -103,6 +103,7 @@ fn spread(r: &[u8], e: usize) -> usize
     }
 }
 
+#[tactic(auto, using(crate::proofs::Spreads::too_wide))]
 fn check_exprs(r: &[u8]) -> Checked
     requires { 16 + 8 * (recipe_of r.now).exprs ≤ length r.now }
     ensures { result ≡ up_to (recipe_of r.now).exprs (check_expr (recipe_of r.now)) }

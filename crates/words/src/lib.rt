@@ -17,6 +17,7 @@ pub fn not(a: u32) -> u32
 }
 
 // The lowest number, which has no opposite, stays as it is.
+#[tactic(auto, using(crate::proofs::Magnitude::absolute_low, crate::proofs::Magnitude::absolute_high))]
 pub fn abs(a: u32) -> u32
     ensures { result ≡ absolute a }
 {
@@ -41,6 +42,7 @@ pub fn mul(a: u32, b: u32) -> u32
     ((a as u64) * (b as u64) % 4294967296) as u32
 }
 
+#[tactic(auto, using(crate::proofs::Magnitude::absolute_positive, crate::proofs::Magnitude::quotient_low_low, crate::proofs::Magnitude::quotient_low_high, crate::proofs::Magnitude::quotient_high_low, crate::proofs::Magnitude::quotient_high_high))]
 pub fn div(a: u32, b: u32) -> u32
     requires { 0 < b }
     ensures { result ≡ quotient a b }
@@ -53,6 +55,7 @@ pub fn div(a: u32, b: u32) -> u32
     }
 }
 
+#[tactic(auto, using(crate::proofs::Magnitude::absolute_positive, crate::proofs::Magnitude::remainder_low, crate::proofs::Magnitude::remainder_high))]
 pub fn rem(a: u32, b: u32) -> u32
     requires { 0 < b }
     ensures { result ≡ remainder a b }

@@ -26,9 +26,6 @@ returns-then-p-ne0 c = sym (no_header _ λ h. c.if-p-ne0.true h.zero_byte)
 pub returns-then-n-lt1 : goal.returns-then-n-lt1
 returns-then-n-lt1 c = sym (no_header _ λ h. omega (arith, h.some_tag))
 
-pub returns-then-n-gt16 : goal.returns-then-n-gt16
-returns-then-n-gt16 c = sym (no_header _ λ h. omega (arith, h.few_tags))
-
 pub returns-then-ports-gt16 : goal.returns-then-ports-gt16
 returns-then-ports-gt16 c = sym (no_header _ λ h. omega (arith, h.few_ports))
 

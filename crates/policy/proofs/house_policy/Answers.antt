@@ -2,11 +2,8 @@
 use native.Mathlib.Omega.{arith}
 use mathlib.Core.Path.{◌≡◌, refl}
 use borrow.Author.Rules.{rules}
-use Rattle.policy.proofs.House.{written_more, no_room, room}
+use Rattle.policy.proofs.House.{written_more, room}
 use Rattle.policy.proofs.house_policy.Goals as goal
-
-pub returns-then-out-lt266 : goal.returns-then-out-lt266
-returns-then-out-lt266 c = rw (no_room c.args.out.now c.if-out-lt266.true) (refl, refl)
 
 pub loop-k-init : goal.loop-k-init
 loop-k-init c = (search rules, refl, refl)
@@ -15,11 +12,11 @@ pub loop-k-preserved : goal.loop-k-preserved
 loop-k-preserved c =
     let b = c.args.out.now in
     let inv = c.loop-k.invariant in
-    let more = written_more b c.loop-k.k c.if-out-lt266.false (omega arith) in
+    let more = written_more b c.loop-k.k (omega arith) (omega arith) in
     (search rules, search rules, rw (inv.2, c.house_byte.ensures) more)
 
 pub returns : goal.returns
 returns c =
     let b = c.args.out.now in
     let e : c.loop-k.k ≡ 266 = omega arith in
-    rw (room b c.if-out-lt266.false) (refl, rw e at c.loop-k.invariant.2)
+    rw (room b (omega arith)) (refl, rw e at c.loop-k.invariant.2)

@@ -1,9 +1,10 @@
 -- `recipe::check_exprs` meets its contract. The invariant: every expression passed is well-formed and narrow. Assumes nothing.
 use native.Mathlib.Omega.{arith}
-use mathlib.Core.Path.{sym, ◌∙◌}
-use borrow.Author.Tests.{le-leb, lt-leb}
-use Rattle.rules.proofs.Checks.{passes, fails, next, stops, both_pass, up_none, up_more, up_stops}
+use mathlib.Core.Path.{sym}
+use borrow.Author.Tests.{le-leb}
+use Rattle.rules.proofs.Checks.{passes, fails, stops, both_pass, up_none, up_more, up_stops}
 use Rattle.rules.proofs.Tests.{denied, held}
+use Rattle.rules.specs.Recipe.{recipe_of, spread as spread_of}
 use Rattle.recipe.proofs.Order.{finished}
 use Rattle.recipe.proofs.Spreads.{reached}
 use Rattle.recipe.proofs.check_exprs.Goals as goal
@@ -35,19 +36,6 @@ spread-requires c =
     c.expr_ok.ensures) c.if-not-expr_ok.false in
     reached _ _ (omega arith) c.loop-e.invariant.1 ok
 
-pub returns-then-spread-gt256 : goal.returns-then-spread-gt256
-returns-then-spread-gt256 c =
-    let half-at2 = c.half_at-vars in
-    let loop = c.loop-e in
-    let expr-at = c.expr_at in
-    let expr-ok = c.expr_ok in
-    let if1 = c.if-not-expr_ok in
-    let spread = c.spread in
-    let if2 = c.if-spread-gt256 in
-    let ok = held (rw (half-at2.ensures.0, expr-at.ensures) at expr-ok.ensures) if1.false in
-    let wide = lt-leb _ _ (rw spread.ensures at if2.true) in
-    sym (up_stops _ _ _ (omega arith) loop.invariant.1 (next _ (passes _ ok) ∙ fails _ wide))
-
 pub overflow_add-e : goal.overflow_add-e
 overflow_add-e c = omega arith
 
@@ -62,9 +50,8 @@ loop-e-preserved c =
     let expr-ok = c.expr_ok in
     let if1 = c.if-not-expr_ok in
     let spread = c.spread in
-    let if2 = c.if-spread-gt256 in
     let ok = held (rw (half-at2.ensures.0, expr-at.ensures) at expr-ok.ensures) if1.false in
-    let narrow = le-leb _ _ (rw spread.ensures at if2.false) in
+    let narrow = le-leb (spread_of (recipe_of c.args.r.now) loop.e) 256 (omega (arith, spread.ensures)) in
     (omega arith, up_more _ _ loop.invariant.1 (both_pass (passes _ ok) (passes _ narrow)))
 
 pub returns : goal.returns
