@@ -9,6 +9,15 @@ use Rattle.rules.specs.declared.Stmt.{Stmt}
 use Rattle.rules.specs.Checks.{◌and◌}
 use Rattle.rules.specs.Recipe.{stmt_if, expr_of}
 
+-- k is none of the numbers below n, as the last arm of a `match` knows it; omega takes no more than six such facts at once
+abbrev pub Other : (n k : ℕ) → Type 0
+Other zero k = Unit {0}
+Other (suc n) k = Other n k × (k ≡ n → ⊥)
+
+pub past : (n k : ℕ) → Other n k → n ≤ k
+past zero k h = omega arith
+past (suc n) k h = omega (arith, past n k h.0, h.1)
+
 -- kind 0 is none too
 pub no_expr : (k operator a b : ℕ) → (1 ≤ k → 6 ≤ k) → expr_of k operator a b ≡ BadExpr
 unfolding expr_of
