@@ -16,14 +16,13 @@ use Rattle.rules.specs.declared.Expr.TheVariants.{Constant, Variable, Cell, Unar
 use Rattle.rules.specs.declared.Stop.{Stop}
 use Rattle.rules.specs.declared.Stop.TheVariants.{Index}
 use Rattle.rules.specs.declared.Place.{Place}
-use Rattle.rules.specs.declared.Valued.{Valued}
-use Rattle.rules.specs.declared.Valued.TheVariants.{Value, Fault}
+use Rattle.rules.specs.Steps.{Valued, given, unary_of, binary_of, cell_of, value_by}
+use Rattle.std.specs.Prelude.{Ok, Err}
 use Rattle.rules.specs.Bytes.{byte}
 use Rattle.rules.specs.Checks.{◌and◌}
 use Rattle.rules.specs.Policy.{Policy, policy_of}
 use Rattle.rules.specs.Recipe.{Recipe, recipe_of}
 use Rattle.rules.specs.Memory.{Memory, value_of, tag_of, count}
-use Rattle.rules.specs.Steps.{given, unary_of, binary_of, cell_of, value_by}
 use Rattle.rules.specs.Accepted.{ExprOk}
 use Rattle.rules.proofs.Depth.{eval_is}
 use Rattle.rules.proofs.Standing.{proper}
@@ -69,7 +68,7 @@ module _ {r p t u : List ℕ} (a : Ready r p t u) where
   binary_op NotEqual o v = refl
 
   -- a fault of an operand is the fault of the whole
-  left_lost : (k : ℕ) → 1 ≤ k → (h : Stop) (v : Valued) → op_of k (Fault h) v ≡ Fault h
+  left_lost : (k : ℕ) → 1 ≤ k → (h : Stop) (v : Valued) → op_of k (Err h) v ≡ Err h
   left_lost zero l h v = absurd (omega arith)
   left_lost (suc zero) l h v = refl
   left_lost (suc (suc zero)) l h v = refl
@@ -77,7 +76,7 @@ module _ {r p t u : List ℕ} (a : Ready r p t u) where
   left_lost (suc (suc (suc (suc zero)))) l h v = refl
   left_lost (suc (suc (suc (suc (suc k))))) l h v = refl
 
-  right_lost : (k : ℕ) → 5 ≤ k → (q : Place) (h : Stop) → op_of k (Value q) (Fault h) ≡ Fault h
+  right_lost : (k : ℕ) → 5 ≤ k → (q : Place) (h : Stop) → op_of k (Ok q) (Err h) ≡ Err h
   right_lost zero l q h = absurd (omega arith)
   right_lost (suc zero) l q h = absurd (omega arith)
   right_lost (suc (suc zero)) l q h = absurd (omega arith)
@@ -91,7 +90,7 @@ module _ {r p t u : List ℕ} (a : Ready r p t u) where
   record LeafAt (e l : ℕ) : Type 0 where
     there : l < 2112
     good : tag_in (get_or u l 0) < byte p 6
-    is : value_in r p u e ≡ Value (place_in u l)
+    is : value_in r p u e ≡ Ok (place_in u l)
 
   leaf_of : (e : ℕ) (x : Expr) → e < R.exprs → ExprOk R.vars e x → ConstantAs u e x
       → value_in r p u e ≡ value_by P R held (λ i. value_in r p u i) x → leaf x ≡ true → LeafAt e (place_of e x)
@@ -101,14 +100,14 @@ module _ {r p t u : List ℕ} (a : Ready r p t u) where
       record {
         there = omega (arith, a.recipe.counts.few_exprs);
         good = rw tag a.policy.some_tag;
-        is = v ∙ ap Value (sym c);
+        is = v ∙ ap Ok (sym c);
       }
   leaf_of e (Variable x) there ok c v q =
       let low : x < count R = omega arith in
       record {
         there = omega (arith, a.recipe.counts.few_vars);
         good = a.tags_below x low;
-        is = v ∙ ap Value (place_held R u x low);
+        is = v ∙ ap Ok (place_held R u x low);
       }
   leaf_of e (Cell i) there ok c v q = absurd (false≢true q)
   leaf_of e (Unary op i) there ok c v q = absurd (false≢true q)
@@ -133,7 +132,7 @@ module _ {r p t u : List ℕ} (a : Ready r p t u) where
     right_there : m < 2112
     left_good : tag_in (get_or u l 0) < byte p 6
     right_good : 5 ≤ k → tag_in (get_or u m 0) < byte p 6
-    is : o ≡ op_of k (Value (place_in u l)) (Value (place_in u m))
+    is : o ≡ op_of k (Ok (place_in u l)) (Ok (place_in u m))
 
   record Deep (e k l m : ℕ) (o : Valued) : Type 0 where
     some : 17 ≤ k
@@ -168,7 +167,7 @@ module _ {r p t u : List ℕ} (a : Ready r p t u) where
           right_there = omega arith;
           left_good = x.good;
           right_good = λ z. absurd (omega arith);
-          is = rw x.is at (v (Value (place_in u 0)));
+          is = rw x.is at (v (Ok (place_in u 0)));
         }))
     one n i h f g false q k l m v =
         let back : 16 + n - 16 ≡ n = omega arith in
@@ -247,7 +246,7 @@ module _ {r p t u : List ℕ} (a : Ready r p t u) where
   faulty : (i : ℕ) {x : ℕ} → x ≡ answer_of (value_in r p u i) → 9223372036854775808 ≤ x → Faulty x (value_in r p u i)
   faulty i = is_fault a.policy.few_tags (proper (sound_ready a) (places_ready a) i)
 
-  place_worth : (l : ℕ) → tag_in (get_or u l 0) < byte p 6 → Worthy P (get_or u l 0) (Value (place_in u l))
+  place_worth : (l : ℕ) → tag_in (get_or u l 0) < byte p 6 → Worthy P (get_or u l 0) (Ok (place_in u l))
   place_worth l h = record { is = refl; good = h }
 
   -- the join's table has a row and a column for every tag
@@ -328,10 +327,10 @@ module _ {r p t u : List ℕ} (a : Ready r p t u) where
       pub right_place : right < 2112
       right_place = shape.right_there
 
-      left_worth : Worthy P (get_or u left 0) (Value (place_in u left))
+      left_worth : Worthy P (get_or u left 0) (Ok (place_in u left))
       left_worth = place_worth left shape.left_good
 
-      right_worth : 5 ≤ code → Worthy P (get_or u right 0) (Value (place_in u right))
+      right_worth : 5 ≤ code → Worthy P (get_or u right 0) (Ok (place_in u right))
       right_worth b = place_worth right (shape.right_good b)
 
       pub flat_asks : 0 < code → Applies t u code (get_or u left 0) (get_or u right 0)

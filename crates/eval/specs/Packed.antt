@@ -1,7 +1,6 @@
 -- The operators on packed answers x and y: value + 2^32 tag each. Assumes nothing.
-use Rattle.std.specs.Prelude.{ℕ, ◌+◌, ◌/◌, ◌%◌, ◌<◌, ◌≤◌, ◌≡◌, List, [], ◌∷◌, ltb, get_or}
+use Rattle.std.specs.Prelude.{ℕ, ◌+◌, ◌/◌, ◌%◌, ◌<◌, ◌≤◌, ◌≡◌, List, [], ◌∷◌, ltb, get_or, Ok}
 use Rattle.rules.specs.declared.Stop.TheVariants.{Index, Divisor}
-use Rattle.rules.specs.declared.Valued.TheVariants.{Value}
 use Rattle.rules.specs.Operators.{unary, binary, divides}
 use Rattle.rules.specs.Memory.{◌#◌}
 use Rattle.rules.specs.Steps.{given}
@@ -16,11 +15,11 @@ abbrev pub word_in : ℕ → ℕ
 word_in x = x % 4294967296
 
 abbrev pub unary_in : (k x : ℕ) → ℕ
-unary_in k x = answer_of (Value (unary (unary_from k) (word_in x) # tag_in x))
+unary_in k x = answer_of (Ok (unary (unary_from k) (word_in x) # tag_in x))
 
 abbrev pub binary_in : (t : List ℕ) (k x y : ℕ) → ℕ
 binary_in t k x y =
-    answer_of (given (divides (binary_from k) (word_in y)) Divisor (Value (binary (binary_from k) (word_in x) (word_in y) # join_in t (tag_in x) (tag_in y))))
+    answer_of (given (divides (binary_from k) (word_in y)) Divisor (Ok (binary (binary_from k) (word_in x) (word_in y) # join_in t (tag_in x) (tag_in y))))
 
 -- the cell at the index in x
 abbrev pub cell_place : (t : List ℕ) (x : ℕ) → ℕ
@@ -29,7 +28,7 @@ cell_place t x = get_or t 8464 0 + word_in x
 abbrev pub cell_in : (t u : List ℕ) (x : ℕ) → ℕ
 cell_in t u x =
     let c = get_or u (cell_place t x) 0 in
-    answer_of (given (ltb (word_in x) (get_or t 8465 0)) Index (Value (word_in c # join_in t (tag_in c) (tag_in x))))
+    answer_of (given (ltb (word_in x) (get_or t 8465 0)) Index (Ok (word_in c # join_in t (tag_in c) (tag_in x))))
 
 -- an index below the number of cells names a place
 pub record CellAsked (t u : List ℕ) (x : ℕ) : Type 0 where

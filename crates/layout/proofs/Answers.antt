@@ -9,8 +9,8 @@ use Rattle.rules.specs.declared.BinaryOp.TheVariants.{Add, Sub, Mul, Div, Rem, L
 use Rattle.rules.specs.declared.Stop.{Stop}
 use Rattle.rules.specs.declared.Stop.TheVariants.{AssignTag, StoreTag, EmitTag, Index, Divisor, Room, Frames}
 use Rattle.rules.specs.declared.Place.{Place}
-use Rattle.rules.specs.declared.Valued.{Valued}
-use Rattle.rules.specs.declared.Valued.TheVariants.{Value, Fault}
+use Rattle.rules.specs.Steps.{Valued}
+use Rattle.std.specs.Prelude.{Ok, Err}
 use Rattle.rules.specs.Policy.{Policy}
 use Rattle.rules.specs.Memory.{value_of, tag_of}
 use Rattle.rules.specs.Ends.{stop_number}
@@ -69,18 +69,18 @@ worth_back q small =
 
 -- the answer x stands for a value, or for a fault, whose number is its word
 pub record Worthy (P : Policy) (x : ℕ) (o : Valued) : Type 0 where
-  pub is : o ≡ Value (worth_of x)
+  pub is : o ≡ Ok (worth_of x)
   pub good : x / 4294967296 < P.tags
 
 pub record Faulty (x : ℕ) (o : Valued) : Type 0 where
   pub stop : Stop
-  pub is : o ≡ Fault stop
+  pub is : o ≡ Err stop
   pub word : x % 4294967296 ≡ stop_number stop
   pub back : stop_from (x - 9223372036854775808) ≡ stop
 
 pub is_worth : {P : Policy} → P.tags ≤ 16 → {o : Valued} → Proper P o → {x : ℕ} → x ≡ answer_of o → x < 9223372036854775808 → Worthy P x o
 unfolding value_of tag_of
-is_worth few (value {p} k) e l = record { is = rw e (ap Value (sym (worth_back p k.word))); good = omega (arith, k.good, k.word) }
+is_worth few (value {p} k) e l = record { is = rw e (ap Ok (sym (worth_back p k.word))); good = omega (arith, k.good, k.word) }
 is_worth few (fault {h}) e l = absurd (omega arith)
 
 pub is_fault : {P : Policy} → P.tags ≤ 16 → {o : Valued} → Proper P o → {x : ℕ} → x ≡ answer_of o → 9223372036854775808 ≤ x → Faulty x o

@@ -2,14 +2,13 @@
 -- 1088 + e, with tag 0. Assumes nothing.
 use Rattle.std.specs.Prelude.{ℕ, zero, suc, ◌+◌, ◌/◌, ◌<◌, ◌≡◌, List, [], ◌∷◌, get_or}
 use Rattle.rules.specs.declared.Place.{Place}
-use Rattle.rules.specs.declared.Valued.{Valued}
+use Rattle.rules.specs.Steps.{Valued, eval}
 use Rattle.rules.specs.declared.Expr.{Expr}
 use Rattle.rules.specs.declared.Expr.TheVariants.{Constant, Variable, Cell, Unary, Binary, BadExpr}
 use Rattle.rules.specs.Bytes.{Bytes, byte}
 use Rattle.rules.specs.Policy.{policy_of}
 use Rattle.rules.specs.Recipe.{Recipe, recipe_of}
 use Rattle.rules.specs.Memory.{Memory, ◌#◌, count}
-use Rattle.rules.specs.Steps.{eval}
 use Rattle.rules.specs.Accepted.{WellFormed, LawfulPolicy, PortsOk}
 use Rattle.layout.specs.Tables.{Decoded}
 use Rattle.layout.specs.Answers.{answer_of, worth_of}

@@ -9,8 +9,8 @@ use lib.ListN.{get_or}
 use borrow.Author.Tests.{eqb-true, eqb-false}
 use Rattle.rules.specs.declared.Stop.TheVariants.{EmitTag}
 use Rattle.rules.specs.declared.Place.{Place}
-use Rattle.rules.specs.declared.Valued.{Valued}
-use Rattle.rules.specs.declared.Valued.TheVariants.{Value}
+use Rattle.rules.specs.Steps.{Valued, allow, assigns, emits, chooses, loops, tests}
+use Rattle.std.specs.Prelude.{Ok}
 use Rattle.rules.specs.declared.Frame.TheVariants.{Join, Loop}
 use Rattle.rules.specs.declared.Act.TheVariants.{Passes, Pushes, Records, Stops}
 use Rattle.rules.specs.declared.Again.TheVariants.{Repeats, Leaves}
@@ -18,7 +18,6 @@ use Rattle.rules.specs.Bytes.{byte}
 use Rattle.rules.specs.Policy.{Policy, policy_of, under}
 use Rattle.rules.specs.Recipe.{Recipe}
 use Rattle.rules.specs.Memory.{Memory, value_of, tag_of}
-use Rattle.rules.specs.Steps.{allow, assigns, emits, chooses, loops, tests}
 use Rattle.layout.specs.Tables.{join_in}
 use Rattle.layout.specs.Places.{Ready}
 use Rattle.layout.specs.Answers.{answer_of, worth_of}
@@ -33,15 +32,15 @@ pub worth_word : (x : ℕ) → value_of (worth_of x) < 2 ^ 32
 unfolding value_of
 worth_word x = omega arith
 
-pub worth_answer : (x : ℕ) → x ≡ answer_of (Value (worth_of x))
+pub worth_answer : (x : ℕ) → x ≡ answer_of (Ok (worth_of x))
 unfolding value_of tag_of
 worth_answer x = omega arith
 
 module _ (P : Policy) (R : Recipe) (m : Memory) (b : ℕ) {o : Valued} where
-  pub did_as : (i h : ℕ) (u v : List ℕ) (q : Place) → o ≡ Value q → Done (assigns P R m b i (Value q)) h u v → Done (assigns P R m b i o) h u v
+  pub did_as : (i h : ℕ) (u v : List ℕ) (q : Place) → o ≡ Ok q → Done (assigns P R m b i (Ok q)) h u v → Done (assigns P R m b i o) h u v
   did_as i h u v q e d = rw e d
 
-  module _ (v : ℕ) {w : ℕ} (e : o ≡ Value (worth_of v)) (q : w ≡ v % 4294967296) where
+  module _ (v : ℕ) {w : ℕ} (e : o ≡ Ok (worth_of v)) (q : w ≡ v % 4294967296) where
     pub chooses_no : (a c : ℕ) → w ≡ 0 → chooses P R m b a c o ≡ Pushes (Join b) c (P.join b (v / 4294967296))
     unfolding value_of tag_of
     chooses_no a c z = rw (e, test_false q z a c)

@@ -8,8 +8,7 @@ use lib.ListN.{length, get_or, set}
 use lib.Seq.{get_or-set_same, get_or-set_other}
 use Rattle.rules.specs.declared.Frame.{Frame}
 use Rattle.rules.specs.declared.Frame.TheVariants.{Next, Join, Loop}
-use Rattle.rules.specs.declared.Waiting.{Waiting}
-use Rattle.rules.specs.declared.Waiting.TheVariants.{Begin, Nothing}
+use Rattle.std.specs.Prelude.{Option, Some, None}
 use Rattle.rules.specs.Policy.{policy_of}
 use Rattle.rules.specs.Recipe.{recipe_of}
 use Rattle.rules.proofs.Standing.{FrameOk, FramesOk, WaitingOk}
@@ -53,9 +52,9 @@ pushed {st} {d} h f w e l = rw (add-one d) (more f (get_or-set_same st (suc d) w
 -- ---- what is done next
 
 -- statement s of this kind is begun, or the top frame is taken, whose word has this kind and names s
-pub data Turned (t st : List ℕ) (d kind s : ℕ) : Waiting → Type 0 where
-  at_stmt : kind ≡ get_or t (4096 + 4 * s) 0 → Turned t st d kind s (Begin s)
-  at_top : kind ≡ get_or st d 0 / 8192 → s ≡ get_or st d 0 / 16 % 512 → Turned t st d kind s Nothing
+pub data Turned (t st : List ℕ) (d kind s : ℕ) : Option ℕ → Type 0 where
+  at_stmt : kind ≡ get_or t (4096 + 4 * s) 0 → Turned t st d kind s (Some s)
+  at_top : kind ≡ get_or st d 0 / 8192 → s ≡ get_or st d 0 / 16 % 512 → Turned t st d kind s None
 
 frame_kind : (f : Frame) → 7 ≤ word_of f / 8192
 frame_kind (Next a) = omega arith
@@ -67,8 +66,8 @@ top_kind (none e) = rw e (omega arith)
 top_kind (more f e h) = rw e (frame_kind f)
 
 -- a kind below 7 is a statement's
-pub by_stmt : {t st : List ℕ} {d kind s : ℕ} {w : Waiting} {l : List Frame} → Turned t st d kind s w → Held st d l → kind < 7
-    → (w ≡ Begin s) × (kind ≡ get_or t (4096 + 4 * s) 0)
+pub by_stmt : {t st : List ℕ} {d kind s : ℕ} {w : Option ℕ} {l : List Frame} → Turned t st d kind s w → Held st d l → kind < 7
+    → (w ≡ Some s) × (kind ≡ get_or t (4096 + 4 * s) 0)
 by_stmt (at_stmt e) h low = (refl, e)
 by_stmt (at_top e f) h low = absurd (omega (arith, top_kind h))
 
@@ -105,17 +104,17 @@ module _ {r p t u : List ℕ} (a : Ready r p t u) where
   kind_low s l = rw (a.decoded.stmts_as s l).kind (kind_below ((recipe_of r).stmt_at s))
 
   -- frame f is the top, and is taken next
-  pub record Top (st : List ℕ) (d : ℕ) (w : Waiting) (l : List Frame) (f : Frame) : Type 0 where
+  pub record Top (st : List ℕ) (d : ℕ) (w : Option ℕ) (l : List Frame) (f : Frame) : Type 0 where
     pub rest : List Frame
-    pub waits : w ≡ Nothing
+    pub waits : w ≡ None
     pub frames_are : l ≡ f ∷ rest
     pub below : Held st (d - 1) rest
     pub some : 0 < d
 
-  taken : {st : List ℕ} {d : ℕ} {l : List Frame} (f : Frame) → Held st d l → Top st (suc d) Nothing (f ∷ l) f
+  taken : {st : List ℕ} {d : ℕ} {l : List Frame} (f : Frame) → Held st d l → Top st (suc d) None (f ∷ l) f
   taken {d = d} {l = l} f h = record { rest = l; waits = refl; frames_are = refl; below = rw (sub-one (suc d)) h; some = omega arith }
 
-  pub top_next : {st : List ℕ} {d kind s : ℕ} {w : Waiting} {l : List Frame} → WaitingOk (recipe_of r) w → Turned t st d kind s w → Held st d l
+  pub top_next : {st : List ℕ} {d kind s : ℕ} {w : Option ℕ} {l : List Frame} → WaitingOk (recipe_of r) w → Turned t st d kind s w → Held st d l
       → FramesOk (policy_of p) (recipe_of r) l → kind ≡ 7 → Top st d w l (Next s)
   top_next ok (at_stmt e) h fine k = absurd (omega (arith, kind_low _ ok))
   top_next ok (at_top e f) (none b) fine k = absurd (omega arith)
@@ -126,7 +125,7 @@ module _ {r p t u : List ℕ} (a : Ready r p t u) where
   top_next ok (at_top e f) (more (Join g) b h) fine k = absurd (omega (arith, (frame_parts (Join g) fine.0 b).kind_is))
   top_next ok (at_top e f) (more (Loop n g) b h) fine k = absurd (omega (arith, (frame_parts (Loop n g) fine.0 b).kind_is))
 
-  pub top_join : {st : List ℕ} {d kind s : ℕ} {w : Waiting} {l : List Frame} → WaitingOk (recipe_of r) w → Turned t st d kind s w → Held st d l
+  pub top_join : {st : List ℕ} {d kind s : ℕ} {w : Option ℕ} {l : List Frame} → WaitingOk (recipe_of r) w → Turned t st d kind s w → Held st d l
       → FramesOk (policy_of p) (recipe_of r) l → kind ≡ 8 → Top st d w l (Join (get_or st d 0 % 16))
   top_join ok (at_stmt e) h fine k = absurd (omega (arith, kind_low _ ok))
   top_join ok (at_top e f) (none b) fine k = absurd (omega arith)
@@ -134,7 +133,7 @@ module _ {r p t u : List ℕ} (a : Ready r p t u) where
   top_join ok (at_top e f) (more (Join g) b h) fine k = rw (frame_parts (Join g) fine.0 b).tag_is (taken (Join g) h)
   top_join ok (at_top e f) (more (Loop n g) b h) fine k = absurd (omega (arith, (frame_parts (Loop n g) fine.0 b).kind_is))
 
-  pub top_loop : {st : List ℕ} {d kind s : ℕ} {w : Waiting} {l : List Frame} → WaitingOk (recipe_of r) w → Turned t st d kind s w → Held st d l
+  pub top_loop : {st : List ℕ} {d kind s : ℕ} {w : Option ℕ} {l : List Frame} → WaitingOk (recipe_of r) w → Turned t st d kind s w → Held st d l
       → FramesOk (policy_of p) (recipe_of r) l → kind ≡ 9 → Top st d w l (Loop s (get_or st d 0 % 16))
   top_loop ok (at_stmt e) h fine k = absurd (omega (arith, kind_low _ ok))
   top_loop ok (at_top e f) (none b) fine k = absurd (omega arith)
@@ -146,8 +145,8 @@ module _ {r p t u : List ℕ} (a : Ready r p t u) where
       rw (i, q.tag_is) (taken (Loop n g) h)
 
   -- nothing is left to do
-  pub top_none : {st : List ℕ} {d kind s : ℕ} {w : Waiting} {l : List Frame} → WaitingOk (recipe_of r) w → Turned t st d kind s w → Held st d l
-      → FramesOk (policy_of p) (recipe_of r) l → 9 < kind → (w ≡ Nothing) × (l ≡ [])
+  pub top_none : {st : List ℕ} {d kind s : ℕ} {w : Option ℕ} {l : List Frame} → WaitingOk (recipe_of r) w → Turned t st d kind s w → Held st d l
+      → FramesOk (policy_of p) (recipe_of r) l → 9 < kind → (w ≡ None) × (l ≡ [])
   top_none ok (at_stmt e) h fine k = absurd (omega (arith, kind_low _ ok))
   top_none ok (at_top e f) (none b) fine k = (refl, refl)
   top_none ok (at_top e f) (more (Next n) b h) fine k = absurd (omega (arith, (frame_parts (Next n) fine.0 b).kind_is))

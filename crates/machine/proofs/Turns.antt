@@ -12,8 +12,7 @@ use Rattle.rules.specs.declared.Stop.{Stop}
 use Rattle.rules.specs.declared.Stop.TheVariants.{EmitTag, Room, Frames}
 use Rattle.rules.specs.declared.Frame.{Frame}
 use Rattle.rules.specs.declared.Frame.TheVariants.{Next, Join, Loop}
-use Rattle.rules.specs.declared.Waiting.{Waiting}
-use Rattle.rules.specs.declared.Waiting.TheVariants.{Begin, Nothing}
+use Rattle.std.specs.Prelude.{Option, Some, None, Ok}
 use Rattle.rules.specs.declared.Act.{Act}
 use Rattle.rules.specs.declared.Act.TheVariants.{Passes, Pushes, Writes, Records, Stops}
 use Rattle.rules.specs.declared.Again.{Again}
@@ -22,7 +21,6 @@ use Rattle.rules.specs.declared.End.{End}
 use Rattle.rules.specs.declared.End.TheVariants.{Done, Budget, Stopped}
 use Rattle.rules.specs.Policy.{Policy, policy_of}
 use Rattle.rules.specs.Recipe.{Recipe, recipe_of}
-use Rattle.rules.specs.declared.Valued.TheVariants.{Value}
 use Rattle.rules.specs.Memory.{Memory, value_of, tag_of, count, Record}
 use Rattle.rules.specs.declared.Stmt.{Stmt}
 use Rattle.rules.specs.declared.Stmt.TheVariants.{Skip, Assign, Store, Then, If, While, Emit, BadStmt}
@@ -89,7 +87,7 @@ module _ (R : Recipe) (room s b : ℕ) (l : List Frame) (m : Memory) (r : List R
   moves_takes t (Fails h) = halts
 
 pub moves_frame : (P : Policy) (R : Recipe) (room b : ℕ) (f : Frame) (l : List Frame) (m : Memory) (r : List Record)
-    → Moves (step P R room (state b Nothing (f ∷ l) m r))
+    → Moves (step P R room (state b None (f ∷ l) m r))
 moves_frame P R room b (Next a) l m r = goes
 moves_frame P R room b (Join t) l m r = goes
 moves_frame P R room b (Loop s t) l m r = moves_takes R room s b l m r t (repeats P R m b (loop_in (R.stmt_at s)))
@@ -110,7 +108,7 @@ not_zero Room e = omega arith
 not_zero Frames e = omega arith
 
 -- with a kind that is not the empty word's, something is left to do
-moves_now : (P : Policy) (R : Recipe) (room tag : ℕ) (m : Memory) (c : List Record) {t st : List ℕ} {d kind s : ℕ} {w : Waiting} {l : List Frame}
+moves_now : (P : Policy) (R : Recipe) (room tag : ℕ) (m : Memory) (c : List Record) {t st : List ℕ} {d kind s : ℕ} {w : Option ℕ} {l : List Frame}
     → Turned t st d kind s w → Held st d l → (kind ≡ 10 → ⊥) → Moves (step P R room (state tag w l m c))
 moves_now P R room tag m c {s = s} (at_stmt e) h n = moves_performs R room s tag _ m c (begins P R m tag s (R.stmt_at s))
 moves_now P R room tag m c (at_top e f) (none b) n = absurd (n (omega arith))
@@ -142,11 +140,11 @@ lower h l = omega arith
 
 -- ---- states by their parts
 
-step_at : (P : Policy) (R : Recipe) (room tag : ℕ) (m : Memory) (c : List Record) {w w' : Waiting} {l l' : List Frame} → w ≡ w' → l ≡ l'
+step_at : (P : Policy) (R : Recipe) (room tag : ℕ) (m : Memory) (c : List Record) {w w' : Option ℕ} {l l' : List Frame} → w ≡ w' → l ≡ l'
     → step P R room (state tag w l m c) ≡ step P R room (state tag w' l' m c)
 step_at P R room tag m c {w' = w'} {l = l} e f = ap (λ x. step P R room (state tag x l m c)) e ∙ ap (λ x. step P R room (state tag w' x m c)) f
 
-goes_as : {m : Memory} {c : List Record} {b b' : ℕ} {w w' : Waiting} {l l' : List Frame} → b ≡ b' → w ≡ w' → l ≡ l'
+goes_as : {m : Memory} {c : List Record} {b b' : ℕ} {w w' : Option ℕ} {l l' : List Frame} → b ≡ b' → w ≡ w' → l ≡ l'
     → Goes (state b w l m c) ≡ Goes (state b' w' l' m c)
 goes_as e f h = rw (e, f, h)
 
@@ -165,7 +163,7 @@ pub record Stands (r p t u₀ q₀ u q st : List ℕ) (B left k d kind s tag : �
   pub size : length st ≡ 513
   pub all_places : length u ≡ 2112
   pub same_room : length q ≡ length q₀
-  pub waiting : Waiting
+  pub waiting : Option ℕ
   pub frames : List Frame
   pub stack : Held st d frames
   pub turned : Turned t st d kind s waiting
@@ -186,7 +184,7 @@ starts {r} {p} {t} {u} {q} {st} {B} {kind} {s} a all size low e k =
       size = size;
       all_places = all;
       same_room = refl;
-      waiting = Begin s;
+      waiting = Some s;
       frames = [];
       stack = none low;
       turned = at_stmt k;
@@ -261,7 +259,7 @@ module _ {r p t u₀ q₀ u q st : List ℕ} {B left k d kind s tag : ℕ} (g : 
 
     -- ---- the next turn
 
-    pub moved : {u' q' st' : List ℕ} {k' d' kind' s' tag' : ℕ} {w' : Waiting} {l' : List Frame} {c : List Record}
+    pub moved : {u' q' st' : List ℕ} {k' d' kind' s' tag' : ℕ} {w' : Option ℕ} {l' : List Frame} {c : List Record}
         → stepped ≡ Goes (state tag' w' l' (held_in R u') c)
         → Holds q₀ q' c k' → k' ≤ k + 1 → length st' ≡ 513 → length u' ≡ 2112 → Ready r p t u' → Held st' d' l' → Turned t st' d' kind' s' w'
         → Stands r p t u₀ q₀ u' q' st' B (left - 1) k' d' kind' s' tag'
@@ -285,7 +283,7 @@ module _ {r p t u₀ q₀ u q st : List ℕ} {B left k d kind s tag : ℕ} (g : 
         }
 
     -- the places, the records and the stack stay
-    pub stays : {kind' s' tag' d' : ℕ} {w' : Waiting} {l' : List Frame} → stepped ≡ Goes (state tag' w' l' (held_in R u) g.records)
+    pub stays : {kind' s' tag' d' : ℕ} {w' : Option ℕ} {l' : List Frame} → stepped ≡ Goes (state tag' w' l' (held_in R u) g.records)
         → Held st d' l' → Turned t st d' kind' s' w' → Stands r p t u₀ q₀ u q st B (left - 1) k d' kind' s' tag'
     stays e stack turned = moved e g.held (omega arith) g.size g.all_places g.ready stack turned
 
@@ -331,7 +329,7 @@ module _ {r p t u₀ q₀ u q st : List ℕ} {B left k d kind s tag : ℕ} (g : 
       wrote_on Passes e ok did z x y = absurd did
       wrote_on (Pushes f n b) e ok did z x y = absurd did
       wrote_on (Writes i v) e (writes l fine) did z x y =
-          let z = answer_of (Value v) in
+          let z = answer_of (Ok v) in
           let w = held_write R g.ready.recipe.counts u g.all_places i z l in
           let low : z / 4294967296 < byte p 6 = omega (arith, fine.word, fine.good) in
           moved (e ∙ rw (did.1, w, worth_back v fine.word)) g.held (omega arith) g.size
@@ -352,7 +350,7 @@ module _ {r p t u₀ q₀ u q st : List ℕ} {B left k d kind s tag : ℕ} (g : 
     -- ---- a statement is begun
 
     module _ {c : ℕ} (low : c < 7) (e : kind ≡ c) where
-      here : (g.waiting ≡ Begin s) × (kind ≡ get_or t (4096 + 4 * s) 0)
+      here : (g.waiting ≡ Some s) × (kind ≡ get_or t (4096 + 4 * s) 0)
       here = by_stmt g.turned g.stack (omega arith)
 
       pub there : s < R.stmts
@@ -442,7 +440,7 @@ module _ {r p t u₀ q₀ u q st : List ℕ} {B left k d kind s tag : ℕ} (g : 
 
       pub repeats_on : {b : ℕ} → tests P R (held_in R u) tag body_at (eval P R (held_in R u) test_at) ≡ Repeats body_at b
           → {kind' s' tag' : ℕ} → s' ≡ body_at → tag' ≡ b → kind' ≡ get_or t (4096 + 4 * s') 0 → Stands r p t u₀ q₀ u q st B (left - 1) k d kind' s' tag'
-      repeats_on a i h x = stays ((rw a at took) ∙ goes_as (sym h) (ap Begin (sym i)) (sym top.frames_are)) g.stack (at_stmt x)
+      repeats_on a i h x = stays ((rw a at took) ∙ goes_as (sym h) (ap Some (sym i)) (sym top.frames_are)) g.stack (at_stmt x)
 
       pub leaves_on : tests P R (held_in R u) tag body_at (eval P R (held_in R u) test_at) ≡ Leaves
           → {kind' s' tag' : ℕ} → tag' ≡ get_or st d 0 % 16 → kind' ≡ get_or st (d - 1) 0 / 8192 → s' ≡ get_or st (d - 1) 0 / 16 % 512

@@ -6,7 +6,7 @@ use mathlib.Core.Path.{◌≡◌}
 use mathlib.Core.Bool.{true, false}
 use mathlib.Core.List.{List}
 use borrow.Author.Tests.{leb-true, ltb-true, eqb-true, le-leb, eq-eqb}
-use Rattle.rules.specs.declared.Checked.TheVariants.{Passed}
+use Rattle.std.specs.Prelude.{Ok}
 use Rattle.rules.specs.Bytes.{byte}
 use Rattle.rules.specs.Checks.{up_to}
 use Rattle.rules.specs.Policy.{policy_header_ok, check_entry}
@@ -50,7 +50,7 @@ no_header p f = fails _ (λ e. absurd (f (headed p e)))
 pub many_tags : (p : List ℕ) → 16 < byte p 6 → policy_header_ok p ≡ false
 many_tags p l = no_header p (λ h. omega (arith, h.few_tags))
 
-pub filled : (p : List ℕ) → Headed p → up_to (byte p 6 * byte p 6 + byte p 7) (check_entry p) ≡ Passed → Filled p
+pub filled : (p : List ℕ) → Headed p → up_to (byte p 6 * byte p 6 + byte p 7) (check_entry p) ≡ Ok tt → Filled p
 filled p h e =
     record { headed = h; entries = λ i l. ltb-true _ _ (required _ _ (up_each _ (check_entry p) e i l)) }
 

@@ -10,7 +10,7 @@ use borrow.Author.Tests.{leb-true, lt-leb}
 use Rattle.rules.specs.declared.Expr.{Expr}
 use Rattle.rules.specs.declared.Expr.TheVariants.{Constant, Variable, Cell, Unary, Binary, BadExpr}
 use Rattle.rules.specs.declared.Refusal.TheVariants.{WideExpression}
-use Rattle.rules.specs.declared.Checked.TheVariants.{Passed, Failed}
+use Rattle.std.specs.Prelude.{Ok, Err}
 use Rattle.rules.specs.Checks.{up_to}
 use Rattle.rules.specs.Recipe.{Recipe, recipe_of, expr_ok, spread_by, spread_within, spread, check_expr}
 use Rattle.rules.specs.Accepted.{ExprOk}
@@ -59,7 +59,7 @@ module _ {r : List ℕ} {e : ℕ} (w : Reached r e) where
   spread_is q = rw q (sym (by_operands (recipe_of r) e w.ok))
 
 -- the loop's invariant, and the test of expression e itself
-pub reached : (r : List ℕ) (e : ℕ) → 16 + 8 * e + 7 < length r → up_to e (check_expr (recipe_of r)) ≡ Passed
+pub reached : (r : List ℕ) (e : ℕ) → 16 + 8 * e + 7 < length r → up_to e (check_expr (recipe_of r)) ≡ Ok tt
     → expr_ok (recipe_of r).vars e ((recipe_of r).expr_at e) ≡ true → Reached r e
 reached r e long before own =
     record {
@@ -71,7 +71,7 @@ reached r e long before own =
     R : Recipe
     R = recipe_of r
 
-    each : (a : ℕ) → a < e → check_expr R a ≡ Passed
+    each : (a : ℕ) → a < e → check_expr R a ≡ Ok tt
     each = up_each e (check_expr R) before
 
     by_place : (a : ℕ) → a ≤ e → Dec (a < e) → ExprOk R.vars a (R.expr_at a)
@@ -81,6 +81,6 @@ reached r e long before own =
         rw q (expr_ok_lem _ _ _ own)
 
 -- the first expression that is wide decides
-pub too_wide : (R : Recipe) (n e : ℕ) → e < n → up_to e (check_expr R) ≡ Passed → expr_ok R.vars e (R.expr_at e) ≡ true → 256 < spread R e
-    → up_to n (check_expr R) ≡ Failed (WideExpression e)
+pub too_wide : (R : Recipe) (n e : ℕ) → e < n → up_to e (check_expr R) ≡ Ok tt → expr_ok R.vars e (R.expr_at e) ≡ true → 256 < spread R e
+    → up_to n (check_expr R) ≡ Err (WideExpression e)
 too_wide R n e l before ok wide = up_stops n e _ l before (next _ (passes _ ok) ∙ fails _ (lt-leb _ _ wide))

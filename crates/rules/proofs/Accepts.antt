@@ -12,7 +12,7 @@ use Rattle.rules.specs.declared.Expr.{Expr}
 use Rattle.rules.specs.declared.Expr.TheVariants.{Constant, Variable, Cell, Unary, Binary, BadExpr}
 use Rattle.rules.specs.declared.Stmt.{Stmt}
 use Rattle.rules.specs.declared.Stmt.TheVariants.{Skip, Assign, Store, Then, If, While, Emit, BadStmt}
-use Rattle.rules.specs.declared.Checked.TheVariants.{Passed}
+use Rattle.std.specs.Prelude.{Ok}
 use Rattle.rules.specs.Bytes.{byte}
 use Rattle.rules.specs.Checks.{◌and◌}
 use Rattle.rules.specs.Recipe.{Recipe, recipe_of, mark_ok, zeros_ok, counts_ok, expr_ok, stmt_ok, check_expr, check_stmt, check_header, check_recipe, port_ok, check_ports}
@@ -130,7 +130,7 @@ three a b c x y z h =
 three_back : (a b c x y z : ℕ) → (a ≡ x) × (b ≡ y) × (c ≡ z) → (eqb a x and eqb b y and eqb c z) ≡ true
 three_back a b c x y z h = and_both (and_both (eq-eqb a x h.0) (eq-eqb b y h.1)) (eq-eqb c z h.2)
 
-pub recipe_well_formed : (r : List ℕ) → check_recipe r ≡ Passed → WellFormed r
+pub recipe_well_formed : (r : List ℕ) → check_recipe r ≡ Ok tt → WellFormed r
 unfolding check_recipe check_header mark_ok zeros_ok
 recipe_well_formed r h =
     let R = recipe_of r in
@@ -155,7 +155,7 @@ recipe_well_formed r h =
       narrow = λ e l. leb-true _ _ (required _ _ (second _ _ (expr e l)));
     }
 
-pub well_formed_recipe : (r : List ℕ) → WellFormed r → check_recipe r ≡ Passed
+pub well_formed_recipe : (r : List ℕ) → WellFormed r → check_recipe r ≡ Ok tt
 unfolding check_recipe check_header mark_ok zeros_ok
 well_formed_recipe r w =
     let R = recipe_of r in
@@ -170,11 +170,11 @@ well_formed_recipe r w =
     both_pass (passes _ (ok_expr _ _ _ (w.ordered.exprs_ok e l))) (passes _ (le-leb _ _ (w.narrow e l))))
     (up_all R.stmts (check_stmt R) λ s l. passes _ (ok_stmt _ _ _ _ (w.ordered.stmts_ok s l))))
 
-pub ports_there : (R : Recipe) (ports : ℕ) → check_ports R ports ≡ Passed → PortsOk R ports
+pub ports_there : (R : Recipe) (ports : ℕ) → check_ports R ports ≡ Ok tt → PortsOk R ports
 unfolding check_ports
 ports_there R ports h s l = port_ok_lem ports (R.stmt_at s) (required _ _ (up_each R.stmts _ h s l))
 
-pub there_ports : (R : Recipe) (ports : ℕ) → PortsOk R ports → check_ports R ports ≡ Passed
+pub there_ports : (R : Recipe) (ports : ℕ) → PortsOk R ports → check_ports R ports ≡ Ok tt
 unfolding check_ports
 there_ports R ports h = up_all R.stmts _ λ s l. passes _ (ok_port ports (R.stmt_at s) (h s l))
 
@@ -235,7 +235,7 @@ header_counts p h =
     let g = and_left _ _ h in
     (leb-true _ _ (and_right _ _ (and_left _ _ g)), leb-true _ _ (and_right _ _ g))
 
-pub policy_lawful : (p : List ℕ) → check_policy p ≡ Passed → LawfulPolicy p
+pub policy_lawful : (p : List ℕ) → check_policy p ≡ Ok tt → LawfulPolicy p
 unfolding check_policy policy_header_ok
 policy_lawful p h =
     let h1 = second _ _ h in
@@ -257,7 +257,7 @@ policy_lawful p h =
       laws = laws (policy_of p) (required _ _ (second _ _ h1));
     }
 
-pub lawful_policy : (p : List ℕ) → LawfulPolicy p → check_policy p ≡ Passed
+pub lawful_policy : (p : List ℕ) → LawfulPolicy p → check_policy p ≡ Ok tt
 unfolding check_policy policy_header_ok
 lawful_policy p l =
     both_pass
@@ -272,7 +272,7 @@ lawful_policy p l =
 
 -- ---- the memory
 
-pub memory_well_tagged : (R : Recipe) (tags : ℕ) (m : List ℕ) → check_memory R tags m ≡ Passed → WellTagged R tags m
+pub memory_well_tagged : (R : Recipe) (tags : ℕ) (m : List ℕ) → check_memory R tags m ≡ Ok tt → WellTagged R tags m
 unfolding check_memory
 memory_well_tagged R tags m h =
     record {
@@ -280,7 +280,7 @@ memory_well_tagged R tags m h =
       tags_below = λ i l. ltb-true _ _ (required _ _ (up_each (count R) (check_tag tags (places_of R m)) (second _ _ h) i l));
     }
 
-pub well_tagged_memory : (R : Recipe) (tags : ℕ) (m : List ℕ) → WellTagged R tags m → check_memory R tags m ≡ Passed
+pub well_tagged_memory : (R : Recipe) (tags : ℕ) (m : List ℕ) → WellTagged R tags m → check_memory R tags m ≡ Ok tt
 unfolding check_memory
 well_tagged_memory R tags m w =
     both_pass (passes _ (eq-eqb _ _ w.long))
@@ -288,7 +288,7 @@ well_tagged_memory R tags m w =
 
 -- ---- all of it
 
-pub accepted : (r p m : List ℕ) → checks r p m ≡ Passed → Accepted r p m
+pub accepted : (r p m : List ℕ) → checks r p m ≡ Ok tt → Accepted r p m
 unfolding checks
 accepted r p m h =
     let h1 = second _ _ h in
@@ -300,7 +300,7 @@ accepted r p m h =
       memory = memory_well_tagged (recipe_of r) (byte p 6) m (second _ _ h2);
     }
 
-pub not_refused : (r p m : List ℕ) → Accepted r p m → checks r p m ≡ Passed
+pub not_refused : (r p m : List ℕ) → Accepted r p m → checks r p m ≡ Ok tt
 unfolding checks
 not_refused r p m a =
     both_pass (well_formed_recipe r a.recipe)

@@ -6,7 +6,7 @@ use Rattle.rules.specs.declared.Stmt.{Stmt}
 use Rattle.rules.specs.declared.Stmt.TheVariants.{Skip, Assign, Store, Then, If, While, Emit, BadStmt}
 use Rattle.rules.specs.declared.Stop.{Stop}
 use Rattle.rules.specs.declared.Place.{Place}
-use Rattle.rules.specs.declared.Valued.{Valued}
+use Rattle.rules.specs.Steps.{Valued, allow, assigns, stores, emits, chooses, loops, begins, Loops, loop_of, no_loop, tests, repeats}
 use Rattle.rules.specs.declared.Frame.{Frame}
 use Rattle.rules.specs.declared.Act.{Act}
 use Rattle.rules.specs.declared.Act.TheVariants.{Passes, Pushes, Writes, Records, Stops}
@@ -15,7 +15,6 @@ use Rattle.rules.specs.declared.Again.TheVariants.{Repeats, Leaves, Fails}
 use Rattle.rules.specs.Policy.{Policy, under}
 use Rattle.rules.specs.Recipe.{Recipe}
 use Rattle.rules.specs.Memory.{Memory, ◌#◌, tag_of, place_at}
-use Rattle.rules.specs.Steps.{allow, assigns, stores, emits, chooses, loops, begins, Loops, loop_of, no_loop, tests, repeats}
 use Rattle.rules.proofs.Tests.{picked, both_picked}
 use Rattle.rules.proofs.Tags.{Viewer, Good, High, high_left, high_right, high_under, under_is}
 use Rattle.rules.proofs.Agree.{Agree, apart, same, agree_under, good_left, agree_sym, Alike, alike_sym, good_at, Meets, fault_left, fault_right, values, meets_eval, Fine, fault, value, fine_eval}

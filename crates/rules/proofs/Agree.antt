@@ -8,13 +8,12 @@ use Rattle.rules.specs.declared.Expr.{Expr}
 use Rattle.rules.specs.declared.Expr.TheVariants.{Constant, Variable, Cell, Unary, Binary, BadExpr}
 use Rattle.rules.specs.declared.Stop.{Stop}
 use Rattle.rules.specs.declared.Place.{Place}
-use Rattle.rules.specs.declared.Valued.{Valued}
-use Rattle.rules.specs.declared.Valued.TheVariants.{Value, Fault}
+use Rattle.rules.specs.Steps.{Valued, given, cell_of, unary_of, binary_of, value_by, value_within, eval}
+use Rattle.std.specs.Prelude.{Ok, Err}
 use Rattle.rules.specs.Operators.{unary, binary}
 use Rattle.rules.specs.Policy.{Policy}
 use Rattle.rules.specs.Recipe.{Recipe}
 use Rattle.rules.specs.Memory.{Memory, write, ◌#◌, value_of, tag_of, place_at}
-use Rattle.rules.specs.Steps.{given, cell_of, unary_of, binary_of, value_by, value_within, eval}
 use Rattle.rules.proofs.Tags.{Viewer, Good, High, high_left, high_right}
 
 module _ {P : Policy} (W : Viewer P) where
@@ -30,14 +29,14 @@ module _ {P : Policy} (W : Viewer P) where
 
   -- a fault on either side, or places that agree
   pub data Meets : Valued → Valued → Type 0 where
-    fault_left : {h : Stop} {o : Valued} → Meets (Fault h) o
-    fault_right : {p : Place} {h : Stop} → Meets (Value p) (Fault h)
-    values : {p q : Place} → Agree p q → Meets (Value p) (Value q)
+    fault_left : {h : Stop} {o : Valued} → Meets (Err h) o
+    fault_right : {p : Place} {h : Stop} → Meets (Ok p) (Err h)
+    values : {p q : Place} → Agree p q → Meets (Ok p) (Ok q)
 
 -- what evaluation gives in one run: a fault, or a value with one of the policy's tags
 pub data Fine (P : Policy) : Valued → Type 0 where
-  fault : {h : Stop} → Fine P (Fault h)
-  value : {p : Place} → Good P (tag_of p) → Fine P (Value p)
+  fault : {h : Stop} → Fine P (Err h)
+  value : {p : Place} → Good P (tag_of p) → Fine P (Ok p)
 
 module _ {P : Policy} {W : Viewer P} where
   open W.lawful use {some_tag, join_below}
@@ -115,11 +114,11 @@ module _ {P : Policy} {W : Viewer P} where
 
   -- ---- evaluation
 
-  meets_fault : (o : Valued) {h : Stop} → Meets W o (Fault h)
-  meets_fault (Fault h) = fault_left
-  meets_fault (Value p) = fault_right
+  meets_fault : (o : Valued) {h : Stop} → Meets W o (Err h)
+  meets_fault (Err h) = fault_left
+  meets_fault (Ok p) = fault_right
 
-  meets_given : (a b : Bool) (h : Stop) {x y : Place} → Agree W x y → Meets W (given a h (Value x)) (given b h (Value y))
+  meets_given : (a b : Bool) (h : Stop) {x y : Place} → Agree W x y → Meets W (given a h (Ok x)) (given b h (Ok y))
   unfolding given
   meets_given true true h g = values g
   meets_given true false h g = fault_right
@@ -168,8 +167,8 @@ module _ {P : Policy} {W : Viewer P} where
     meets_eval e = meets_within (suc e) e
 
   fine : (o : Valued) → Meets W o o → Fine P o
-  fine (Fault h) a = fault
-  fine (Value p) (values a) = value (good_left a)
+  fine (Err h) a = fault
+  fine (Ok p) (values a) = value (good_left a)
 
   pub fine_eval : (R : Recipe) {m k : Memory} → Alike W m k → (e : ℕ) → Fine P (eval P R m e)
   fine_eval R s e = fine _ (meets_eval R (alike_self s) e)

@@ -7,85 +7,84 @@ use native.Mathlib.Omega.{arith}
 use mathlib.Core.Path.{◌≡◌, refl, sym, ◌∙◌}
 use mathlib.Core.Bool.{Bool, true, false}
 use Rattle.rules.specs.declared.Refusal.{Refusal}
-use Rattle.rules.specs.declared.Checked.{Checked}
-use Rattle.rules.specs.declared.Checked.TheVariants.{Passed, Failed}
-use Rattle.rules.specs.Checks.{require, ◌and_then◌, up_to, every}
+use Rattle.rules.specs.Checks.{Checked, require, ◌and_then◌, up_to, every}
+use Rattle.std.specs.Prelude.{Ok, Err}
 use Rattle.rules.proofs.Tests.{and_left, and_right, and_both}
 
 -- ---- one check, and one after the other
 
-pub required : (b : Bool) (x : Refusal) → require b x ≡ Passed → b ≡ true
+pub required : (b : Bool) (x : Refusal) → require b x ≡ Ok tt → b ≡ true
 unfolding require
 required true x e = refl
 required false x e = cc
 
-pub passes : {b : Bool} (x : Refusal) → b ≡ true → require b x ≡ Passed
+pub passes : {b : Bool} (x : Refusal) → b ≡ true → require b x ≡ Ok tt
 unfolding require
 passes x e = rw e
 
-pub fails : {b : Bool} (x : Refusal) → b ≡ false → require b x ≡ Failed x
+pub fails : {b : Bool} (x : Refusal) → b ≡ false → require b x ≡ Err x
 unfolding require
 fails x e = rw e
 
-pub first : (c d : Checked) → c and_then d ≡ Passed → c ≡ Passed
+pub first : (c d : Checked) → c and_then d ≡ Ok tt → c ≡ Ok tt
 unfolding ◌and_then◌
-first Passed d e = refl
-first (Failed x) d e = e
+first (Ok u) d e = refl
+first (Err x) d e = e
 
-pub second : (c d : Checked) → c and_then d ≡ Passed → d ≡ Passed
+pub second : (c d : Checked) → c and_then d ≡ Ok tt → d ≡ Ok tt
 unfolding ◌and_then◌
-second Passed d e = e
-second (Failed x) d e = cc
+second (Ok u) d e = e
+second (Err x) d e = cc
 
 -- a check that passes leaves the next to decide
-pub next : {c : Checked} (d : Checked) → c ≡ Passed → c and_then d ≡ d
+pub next : {c : Checked} (d : Checked) → c ≡ Ok tt → c and_then d ≡ d
 unfolding ◌and_then◌
 next d e = rw e
 
 -- a check that fails decides
-pub stops : {c : Checked} {x : Refusal} (d : Checked) → c ≡ Failed x → c and_then d ≡ Failed x
+pub stops : {c : Checked} {x : Refusal} (d : Checked) → c ≡ Err x → c and_then d ≡ Err x
 unfolding ◌and_then◌
 stops d e = rw e
 
-pub both_pass : {c d : Checked} → c ≡ Passed → d ≡ Passed → c and_then d ≡ Passed
+pub both_pass : {c d : Checked} → c ≡ Ok tt → d ≡ Ok tt → c and_then d ≡ Ok tt
 unfolding ◌and_then◌
 both_pass e f = rw (e, f)
 
 -- ---- upwards
 
-pub up_none : (f : ℕ → Checked) → up_to 0 f ≡ Passed
+pub up_none : (f : ℕ → Checked) → up_to 0 f ≡ Ok tt
 unfolding up_to
 up_none f = refl
 
 -- one more that passes
-pub up_more : (i : ℕ) (f : ℕ → Checked) → up_to i f ≡ Passed → f i ≡ Passed → up_to (i + 1) f ≡ Passed
+pub up_more : (i : ℕ) (f : ℕ → Checked) → up_to i f ≡ Ok tt → f i ≡ Ok tt → up_to (i + 1) f ≡ Ok tt
 unfolding up_to
 up_more i f e g = rw (add-one i) (both_pass e g)
 
 -- the first that fails decides
-pub up_stops : (n i : ℕ) (f : ℕ → Checked) {x : Refusal} → i < n → up_to i f ≡ Passed → f i ≡ Failed x → up_to n f ≡ Failed x
+pub up_stops : (n i : ℕ) (f : ℕ → Checked) {x : Refusal} → i < n → up_to i f ≡ Ok tt → f i ≡ Err x → up_to n f ≡ Err x
 unfolding up_to ◌and_then◌
 up_stops zero i f l e g = absurd (not-suc-le-zero l)
 up_stops (suc n) i f {x} l e g = by_place (λ h. up_stops n i f h e g) (dec_lt i n)
   where
-    by_place : (i < n → up_to n f ≡ Failed x) → Dec (i < n) → up_to n f and_then f n ≡ Failed x
+    by_place : (i < n → up_to n f ≡ Err x) → Dec (i < n) → up_to n f and_then f n ≡ Err x
     by_place on (yes h) = stops (f n) (on h)
     by_place on (no h) =
         let q : i ≡ n = omega arith in
         rw (← q, e) g
 
-pub up_each : (n : ℕ) (f : ℕ → Checked) → up_to n f ≡ Passed → (i : ℕ) → i < n → f i ≡ Passed
+pub up_each : (n : ℕ) (f : ℕ → Checked) → up_to n f ≡ Ok tt → (i : ℕ) → i < n → f i ≡ Ok tt
 unfolding up_to
 up_each zero f e i l = absurd (not-suc-le-zero l)
 up_each (suc n) f e i l = by_place (up_each n f (first (up_to n f) (f n) e) i) (dec_lt i n)
   where
-    by_place : (i < n → f i ≡ Passed) → Dec (i < n) → f i ≡ Passed
+    by_place : (i < n → f i ≡ Ok tt) → Dec (i < n) → f i ≡ Ok tt
     by_place on (yes h) = on h
     by_place on (no h) =
         let q : i ≡ n = omega arith in
         rw q (second (up_to n f) (f n) e)
 
-pub up_all : (n : ℕ) (f : ℕ → Checked) → ((i : ℕ) → i < n → f i ≡ Passed) → up_to n f ≡ Passed
+pub up_all : (n : ℕ) (f : ℕ → Checked) → ((i : ℕ) → i < n → f i ≡ Ok tt) → up_to n f ≡ Ok tt
 unfolding up_to
 up_all zero f h = refl
 up_all (suc n) f h = both_pass (up_all n f (λ i l. h i (omega arith))) (h n (omega arith))

@@ -6,8 +6,8 @@ use mathlib.Core.List.{List}
 use lib.ListN.{length, drop, length-append, length-drop}
 use lib.Seq.{drop_at}
 use Rattle.rules.specs.declared.Refusal.{Refusal}
-use Rattle.rules.specs.declared.Checked.{Checked}
-use Rattle.rules.specs.declared.Checked.TheVariants.{Passed, Failed}
+use Rattle.rules.specs.Checks.{Checked}
+use Rattle.std.specs.Prelude.{Ok, Err}
 use Rattle.rules.specs.declared.End.{End}
 use Rattle.rules.specs.declared.End.TheVariants.{Done, Budget, Stopped, Refused}
 use Rattle.rules.specs.Bytes.{Bytes}
@@ -28,11 +28,11 @@ use Rattle.rules.proofs.Tags.{Lawful}
 
 -- ---- what judging is, where the checks pass and where they fail
 
-pub judged_refused : (r p m q : List ℕ) (budget : ℕ) {x : Refusal} → checks r p m ≡ Failed x → judged r p m q budget ≡ refused x m q
+pub judged_refused : (r p m q : List ℕ) (budget : ℕ) {x : Refusal} → checks r p m ≡ Err x → judged r p m q budget ≡ refused x m q
 unfolding judged decided
 judged_refused r p m q budget e = rw e
 
-pub judged_ran : (r p m q : List ℕ) (budget : ℕ) → checks r p m ≡ Passed → judged r p m q budget ≡ written_back q (ran r p m (length q) budget)
+pub judged_ran : (r p m q : List ℕ) (budget : ℕ) → checks r p m ≡ Ok tt → judged r p m q budget ≡ written_back q (ran r p m (length q) budget)
 unfolding judged decided
 judged_ran r p m q budget e = rw e
 
@@ -79,9 +79,9 @@ pub refusal_untouched : (r p m q : List ℕ) (budget : ℕ) {x : Refusal} → (j
 refusal_untouched r p m q budget {x} e = by_checks (checks r p m) refl
   where
     by_checks : (c : Checked) → checks r p m ≡ c → Untouched m q (judged r p m q budget)
-    by_checks (Failed y) f =
+    by_checks (Err y) f =
         rw (judged_refused r p m q budget f) (record { memory_stays = refl; room_stays = refl; no_steps = refl; no_records = refl })
-    by_checks Passed f =
+    by_checks (Ok u) f =
         let P = policy_of p in
         let R = recipe_of r in
         let y = start R (places_of R m) in
@@ -127,10 +127,10 @@ pub kept : (r p m q : List ℕ) → Bytes r → Bytes m → (budget : ℕ) → K
 kept r p m q br bm budget = by_checks (checks r p m) refl
   where
     by_checks : (c : Checked) → checks r p m ≡ c → Kept m q budget (judged r p m q budget)
-    by_checks (Failed y) f =
+    by_checks (Err y) f =
         rw (judged_refused r p m q budget f)
         (record { within_budget = omega arith; few_records = omega arith; records_fit = omega arith; tail_stays = refl; room_length = refl; memory_length = refl })
-    by_checks Passed f =
+    by_checks (Ok u) f =
         let a = accepted r p m f in
         let R = recipe_of r in
         rw (judged_ran r p m q budget f)

@@ -4,11 +4,10 @@ use native.Mathlib.Omega.{arith}
 use mathlib.Core.Path.{◌≡◌, refl, ap, ap₂}
 use Rattle.rules.specs.declared.Expr.{Expr}
 use Rattle.rules.specs.declared.Expr.TheVariants.{Constant, Variable, Cell, Unary, Binary, BadExpr}
-use Rattle.rules.specs.declared.Valued.{Valued}
+use Rattle.rules.specs.Steps.{Valued, cell_of, unary_of, binary_of, value_by, value_within, eval}
 use Rattle.rules.specs.Policy.{Policy}
 use Rattle.rules.specs.Recipe.{Recipe}
 use Rattle.rules.specs.Memory.{Memory}
-use Rattle.rules.specs.Steps.{cell_of, unary_of, binary_of, value_by, value_within, eval}
 use Rattle.rules.specs.Accepted.{ExprOk}
 
 module _ (P : Policy) (R : Recipe) (ordered : (e : ℕ) → e < R.exprs → ExprOk R.vars e (R.expr_at e)) (m : Memory) where

@@ -8,8 +8,7 @@ use lib.ListN.{length, length-append}
 use Rattle.rules.specs.declared.Stop.{Stop}
 use Rattle.rules.specs.declared.Frame.{Frame}
 use Rattle.rules.specs.declared.Frame.TheVariants.{Next, Join, Loop}
-use Rattle.rules.specs.declared.Waiting.{Waiting}
-use Rattle.rules.specs.declared.Waiting.TheVariants.{Begin, Nothing}
+use Rattle.std.specs.Prelude.{Option, Some, None}
 use Rattle.rules.specs.declared.Act.{Act}
 use Rattle.rules.specs.declared.Act.TheVariants.{Passes, Pushes, Writes, Records, Stops}
 use Rattle.rules.specs.declared.Again.{Again}
@@ -39,7 +38,7 @@ begins_self {r} = record { rest = []; whole = append-nil r }
 begins_trans : {r q p : List Record} → Begins r q → Begins q p → Begins r p
 begins_trans {r} w v = record { rest = w.rest ++ v.rest; whole = cc (append_assoc r w.rest v.rest, w.whole, v.whole) }
 
-keeps : {b : ℕ} {n : Waiting} {l : List Frame} {m : Memory} {r : List Record} → Grows r (Goes (state b n l m r))
+keeps : {b : ℕ} {n : Option ℕ} {l : List Frame} {m : Memory} {r : List Record} → Grows r (Goes (state b n l m r))
 keeps {r = r} = let l : length r ≤ suc (length r) = omega arith in goes begins_self l
 
 grows_check : (a : Bool) (h : Stop) (s : ℕ) {r : List Record} {x : Turn} → Grows r x → Grows r (check a h s x)
@@ -64,11 +63,11 @@ module _ (R : Recipe) (room s b : ℕ) (l : List Frame) (m : Memory) (r : List R
 
 module _ (P : Policy) (R : Recipe) (room : ℕ) where
   grows_step : (x : State) → Grows (records_in x) (step P R room x)
-  grows_step (state b (Begin s) l m r) = grows_performs R room s b l m r (begins P R m b s (R.stmt_at s))
-  grows_step (state b Nothing (Next a ∷ l) m r) = keeps
-  grows_step (state b Nothing (Join t ∷ l) m r) = keeps
-  grows_step (state b Nothing (Loop s t ∷ l) m r) = grows_takes R room s b l m r t (repeats P R m b (loop_in (R.stmt_at s)))
-  grows_step (state b Nothing [] m r) = finishes
+  grows_step (state b (Some s) l m r) = grows_performs R room s b l m r (begins P R m b s (R.stmt_at s))
+  grows_step (state b None (Next a ∷ l) m r) = keeps
+  grows_step (state b None (Join t ∷ l) m r) = keeps
+  grows_step (state b None (Loop s t ∷ l) m r) = grows_takes R room s b l m r t (repeats P R m b (loop_in (R.stmt_at s)))
+  grows_step (state b None [] m r) = finishes
 
   grows_follow : (n k : ℕ) (x : State) {t : Turn} → Grows (records_in x) t → Begins (records_in x) (records_from (follow P R room n k x t))
   unfolding follow

@@ -7,7 +7,7 @@ use mathlib.Core.Path.{◌≡◌, refl}
 use mathlib.Core.Bool.{Bool, true}
 use lib.Dec.{eqb}
 use borrow.Author.Tests.{eqb-true}
-use Rattle.rules.specs.declared.Checked.TheVariants.{Passed}
+use Rattle.std.specs.Prelude.{Ok}
 use Rattle.rules.specs.Bytes.{byte}
 use Rattle.rules.specs.Checks.{◌and◌, every}
 use Rattle.rules.specs.Policy.{Policy, policy_of, union_of, house_header, house_joins, house_policy, check_policy}
@@ -222,5 +222,5 @@ house_lawful =
       laws = laws (policy_of house_policy) refl house_rule;
     }
 
-pub house_accepted : check_policy house_policy ≡ Passed
+pub house_accepted : check_policy house_policy ≡ Ok tt
 house_accepted = lawful_policy house_policy house_lawful

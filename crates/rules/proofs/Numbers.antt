@@ -11,12 +11,11 @@ use Rattle.rules.specs.declared.Stop.{Stop}
 use Rattle.rules.specs.declared.Stop.TheVariants.{AssignTag, StoreTag, EmitTag, Index, Divisor, Room, Frames}
 use Rattle.rules.specs.declared.Refusal.{Refusal}
 use Rattle.rules.specs.declared.Refusal.TheVariants.{RecipeLength, RecipeMark, RecipeVersion, RecipeHeader, BadExpression, WideExpression, BadStatement, PolicyHeader, PolicyEntry, PolicyLaw, BadPort, MemoryLength, MemoryTag, HouseRoom, ReportRoom}
-use Rattle.rules.specs.declared.Checked.{Checked}
-use Rattle.rules.specs.declared.Checked.TheVariants.{Passed, Failed}
+use Rattle.rules.specs.Checks.{Checked, require, ◌and_then◌, up_to}
+use Rattle.std.specs.Prelude.{Ok, Err}
 use Rattle.rules.specs.declared.End.{End}
 use Rattle.rules.specs.declared.End.TheVariants.{Done, Budget, Stopped, Refused}
 use Rattle.rules.specs.Bytes.{Bytes, byte}
-use Rattle.rules.specs.Checks.{require, ◌and_then◌, up_to}
 use Rattle.rules.specs.Policy.{Policy, policy_of, check_policy}
 use Rattle.rules.specs.Recipe.{Recipe, recipe_of, check_header, check_recipe, check_ports}
 use Rattle.rules.specs.Memory.{count, check_memory}
@@ -93,8 +92,8 @@ refusal_from ReportRoom = omega arith
 
 -- a refusal by a check, whose place fits 16 bits
 data Numbered : Checked → Type 0 where
-  passed : Numbered Passed
-  failed : (x : Refusal) → ByCheck x → refusal_place x < 65536 → Numbered (Failed x)
+  passed : Numbered (Ok tt)
+  failed : (x : Refusal) → ByCheck x → refusal_place x < 65536 → Numbered (Err x)
 
 numbered_require : (b : Bool) (x : Refusal) → ByCheck x → refusal_place x < 65536 → Numbered (require b x)
 unfolding require
@@ -102,7 +101,7 @@ numbered_require true x k l = passed
 numbered_require false x k l = failed x k l
 
 -- a check is looked at where those before it passed
-numbered_then : {c d : Checked} → Numbered c → (c ≡ Passed → Numbered d) → Numbered (c and_then d)
+numbered_then : {c d : Checked} → Numbered c → (c ≡ Ok tt → Numbered d) → Numbered (c and_then d)
 unfolding ◌and_then◌
 numbered_then passed on = on refl
 numbered_then (failed x k l) on = failed x k l
@@ -122,7 +121,7 @@ numbered_header r =
     numbered_require _ _ tt (omega arith)
 
 -- the counts that the header's check bounds
-header_few : (r : List ℕ) → check_header r ≡ Passed → Counts (recipe_of r)
+header_few : (r : List ℕ) → check_header r ≡ Ok tt → Counts (recipe_of r)
 unfolding check_header
 header_few r h = counts (recipe_of r) (and_right _ _ (required _ _ (first _ _ (second _ _ (second _ _ (second _ _ h))))))
 
@@ -193,7 +192,7 @@ pub record Given (e : End) : Type 0 where
   pub number : (end_number e ≤ 8) ⊎ Listed (end_number e)
   pub place : end_place e < 65536
 
-refused_given : (m q : List ℕ) {x : Refusal} → Numbered (Failed x) → Given (Refused x)
+refused_given : (m q : List ℕ) {x : Refusal} → Numbered (Err x) → Given (Refused x)
 unfolding end_number end_place
 refused_given m q (failed x k l) = record { number = inr (listed x k); place = l }
 
@@ -205,8 +204,8 @@ pub judged_given : (r p m q : List ℕ) → Bytes r → Bytes m → (budget : �
 judged_given r p m q br bm budget = by_checks (checks r p m) refl
   where
     by_checks : (c : Checked) → checks r p m ≡ c → Given (judged r p m q budget).outcome.end
-    by_checks (Failed x) e = rw (judged_refused r p m q budget e) (refused_given m q (subst Numbered e (numbered_checks r p m)))
-    by_checks Passed e =
+    by_checks (Err x) e = rw (judged_refused r p m q budget e) (refused_given m q (subst Numbered e (numbered_checks r p m)))
+    by_checks (Ok u) e =
         let a = accepted r p m e in
         rw (judged_ran r p m q budget e)
         (ran_given (policy_of p) (recipe_of r) q (ran r p m (length q) budget) a.recipe.counts.few_stmts (left_by r p m br bm a (length q) budget))

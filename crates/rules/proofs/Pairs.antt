@@ -7,8 +7,7 @@ use mathlib.Core.List.{List, [], ◌∷◌}
 use Rattle.rules.specs.declared.Stop.{Stop}
 use Rattle.rules.specs.declared.Frame.{Frame}
 use Rattle.rules.specs.declared.Frame.TheVariants.{Next, Join, Loop}
-use Rattle.rules.specs.declared.Waiting.{Waiting}
-use Rattle.rules.specs.declared.Waiting.TheVariants.{Nothing}
+use Rattle.std.specs.Prelude.{Option, None}
 use Rattle.rules.specs.Policy.{Policy}
 use Rattle.rules.specs.Memory.{Memory, Record}
 use Rattle.rules.specs.Steps.{State, state, Turn, Goes, Halts, Finished, check}
@@ -53,14 +52,14 @@ module _ {P : Policy} (W : Viewer P) where
   -- ---- states
 
   -- on the hidden branch, or back from it
-  pub data Side (K : List Frame) (t : ℕ) : (branch : ℕ) → Waiting → List Frame → Type 0 where
-    inside : {b : ℕ} {n : Waiting} {l : List Frame} → High W b → Over K t l → Side K t b n l
-    back : Side K t t Nothing K
+  pub data Side (K : List Frame) (t : ℕ) : (branch : ℕ) → Option ℕ → List Frame → Type 0 where
+    inside : {b : ℕ} {n : Option ℕ} {l : List Frame} → High W b → Over K t l → Side K t b n l
+    back : Side K t t None K
 
   pub data Pair : State → State → Type 0 where
-    together : {b : ℕ} {n : Waiting} {l l' : List Frame} {m k : Memory} {r q : List Record}
+    together : {b : ℕ} {n : Option ℕ} {l l' : List Frame} {m k : Memory} {r q : List Record}
         → Good P b → Stacks l l' → Alike W m k → shown r ≡ shown q → Pair (state b n l m r) (state b n l' k q)
-    split : {K K' : List Frame} {t b b' : ℕ} {n n' : Waiting} {l l' : List Frame} {m k : Memory} {r q : List Record}
+    split : {K K' : List Frame} {t b b' : ℕ} {n n' : Option ℕ} {l l' : List Frame} {m k : Memory} {r q : List Record}
         → Good P t → Stacks K K' → Side K t b n l → Side K' t b' n' l' → Alike W m k → shown r ≡ shown q
         → Pair (state b n l m r) (state b' n' l' k q)
 
@@ -76,13 +75,13 @@ module _ {P : Policy} (W : Viewer P) where
   -- a step of one, beside the memory and the records of the other: it ends its run, or is on a side
   pub data Beside (K : List Frame) (t : ℕ) (k : Memory) (q : List Record) : Turn → Type 0 where
     halts : {h : Stop} {s : ℕ} → Beside K t k q (Halts h s)
-    moves : {b : ℕ} {n : Waiting} {l : List Frame} {m : Memory} {r : List Record}
+    moves : {b : ℕ} {n : Option ℕ} {l : List Frame} {m : Memory} {r : List Record}
         → Side K t b n l → Alike W m k → shown r ≡ shown q → Beside K t k q (Goes (state b n l m r))
 
   -- a step of one that leaves the memory and the records
   pub data Turned (K : List Frame) (t : ℕ) (m : Memory) (r : List Record) : Turn → Type 0 where
     ended : {h : Stop} {s : ℕ} → Turned K t m r (Halts h s)
-    turned : {b : ℕ} {n : Waiting} {l : List Frame} → Side K t b n l → Turned K t m r (Goes (state b n l m r))
+    turned : {b : ℕ} {n : Option ℕ} {l : List Frame} → Side K t b n l → Turned K t m r (Goes (state b n l m r))
 
 module _ {P : Policy} {W : Viewer P} where
   pub both_check : (a c : Bool) (h : Stop) (s : ℕ) {x y : Turn} → Both W x y → Both W (check a h s x) (check c h s y)

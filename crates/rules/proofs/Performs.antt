@@ -4,8 +4,7 @@ use mathlib.Core.Path.{◌≡◌, sym, ◌∙◌}
 use mathlib.Core.List.{List, ◌∷◌}
 use Rattle.rules.specs.declared.Frame.{Frame}
 use Rattle.rules.specs.declared.Frame.TheVariants.{Next, Join, Loop}
-use Rattle.rules.specs.declared.Waiting.{Waiting}
-use Rattle.rules.specs.declared.Waiting.TheVariants.{Begin, Nothing}
+use Rattle.std.specs.Prelude.{Option, Some, None}
 use Rattle.rules.specs.declared.Act.{Act}
 use Rattle.rules.specs.declared.Again.{Again}
 use Rattle.rules.specs.Policy.{Policy}
@@ -15,8 +14,7 @@ use Rattle.rules.specs.Steps.{state, performs, takes, repeats, loop_in, step}
 use Rattle.rules.proofs.Tags.{Viewer, Good, High}
 use Rattle.rules.proofs.Agree.{Alike, alike_sym, alike_set, alike_write}
 use Rattle.rules.proofs.Records.{seen_append, seen_hidden}
-use Rattle.rules.proofs.Pairs.{shown, by_join, by_loop, Stacks, no_frame, same_frame, Over, last, over, Side, inside, back, together}
-use Rattle.rules.proofs.Pairs.{Both, stop_left, stop_right, go, finish, Beside, halts, moves, Turned, ended, turned, both_check, beside_check, turned_check, both_turned, beside_turned}
+use Rattle.rules.proofs.Pairs.{shown, by_join, by_loop, Stacks, no_frame, same_frame, Over, last, over, Side, inside, back, together, Both, stop_left, stop_right, go, finish, Beside, halts, moves, Turned, ended, turned, both_check, beside_check, turned_check, both_turned, beside_turned}
 use Rattle.rules.proofs.Acts as acts
 use Rattle.rules.proofs.Acts.{Acts, Quiet, Hushed, Agains, Branches, both_begins, both_repeats, quiet_begins, hushed_repeats}
 
@@ -29,7 +27,7 @@ module _ {P : Policy} {W : Viewer P} (R : Recipe) where
 
   -- a hidden test of a loop that saved u over the stack l
   turned_again : (room s b : ℕ) (m : Memory) (r : List Record) {K l : List Frame} {t u : ℕ}
-      → Side W K t u Nothing l → Over W K t (Loop s u ∷ l) → {x : Again} → Hushed W x
+      → Side W K t u None l → Over W K t (Loop s u ∷ l) → {x : Again} → Hushed W x
       → Turned W K t m r (takes R room s b l m r u x)
   turned_again room s b m r left ov (acts.repeat h) = turned (inside h ov)
   turned_again room s b m r left ov acts.leave = turned left
@@ -66,13 +64,13 @@ module _ {P : Policy} {W : Viewer P} (R : Recipe) where
     both_takes s gt sl (acts.hush x y) =
         both_turned gt sl mk rq (turned_again room s b m r back (last by_loop) x) (turned_again room' s b k q back (last by_loop) y)
 
-    pub both_step : (n : Waiting) {l l' : List Frame} → Stacks W l l'
+    pub both_step : (n : Option ℕ) {l l' : List Frame} → Stacks W l l'
         → Both W (step P R room (state b n l m r)) (step P R room' (state b n l' k q))
-    both_step (Begin s) sl = both_performs s sl (both_begins R s gb mk (R.stmt_at s))
-    both_step Nothing no_frame = finish
-    both_step Nothing (same_frame (Next a) g sl) = go (together gb sl mk rq)
-    both_step Nothing (same_frame (Join t) g sl) = go (together g sl mk rq)
-    both_step Nothing (same_frame (Loop s t) g sl) = both_takes s g sl (both_repeats R s gb mk (loop_in (R.stmt_at s)))
+    both_step (Some s) sl = both_performs s sl (both_begins R s gb mk (R.stmt_at s))
+    both_step None no_frame = finish
+    both_step None (same_frame (Next a) g sl) = go (together gb sl mk rq)
+    both_step None (same_frame (Join t) g sl) = go (together g sl mk rq)
+    both_step None (same_frame (Loop s t) g sl) = both_takes s g sl (both_repeats R s gb mk (loop_in (R.stmt_at s)))
 
   -- ---- one, beside the other
 
@@ -86,14 +84,14 @@ module _ {P : Policy} {W : Viewer P} (R : Recipe) where
     alone_performs s ov (acts.say {port = port} u) =
         beside_check _ _ _ (moves (inside hb ov) mk (seen_hidden P W.tag r port _ u.clearance.hidden ∙ rq))
 
-    alone_takes : (s : ℕ) {u : ℕ} {l : List Frame} → Side W K t u Nothing l → Over W K t (Loop s u ∷ l)
+    alone_takes : (s : ℕ) {u : ℕ} {l : List Frame} → Side W K t u None l → Over W K t (Loop s u ∷ l)
         → Beside W K t k q (takes R room s b l m r u (repeats P R m b (loop_in (R.stmt_at s))))
     alone_takes s left ov = beside_turned mk rq (turned_again room s b m r left ov (hushed_repeats R s hb mk (loop_in (R.stmt_at s))))
 
-    pub alone_step : (n : Waiting) {l : List Frame} → Over W K t l → Beside W K t k q (step P R room (state b n l m r))
-    alone_step (Begin s) ov = alone_performs s ov (quiet_begins R s hb mk (R.stmt_at s))
-    alone_step Nothing (last by_join) = moves back mk rq
-    alone_step Nothing (last (by_loop {s = s})) = alone_takes s back (last by_loop)
-    alone_step Nothing (over (Next a) h ov) = moves (inside hb ov) mk rq
-    alone_step Nothing (over (Join u) h ov) = moves (inside h ov) mk rq
-    alone_step Nothing (over (Loop s u) h ov) = alone_takes s (inside h ov) (over (Loop s u) h ov)
+    pub alone_step : (n : Option ℕ) {l : List Frame} → Over W K t l → Beside W K t k q (step P R room (state b n l m r))
+    alone_step (Some s) ov = alone_performs s ov (quiet_begins R s hb mk (R.stmt_at s))
+    alone_step None (last by_join) = moves back mk rq
+    alone_step None (last (by_loop {s = s})) = alone_takes s back (last by_loop)
+    alone_step None (over (Next a) h ov) = moves (inside hb ov) mk rq
+    alone_step None (over (Join u) h ov) = moves (inside h ov) mk rq
+    alone_step None (over (Loop s u) h ov) = alone_takes s (inside h ov) (over (Loop s u) h ov)

@@ -10,8 +10,7 @@ use Rattle.rules.specs.declared.BinaryOp.{BinaryOp}
 use Rattle.rules.specs.declared.Expr.{Expr}
 use Rattle.rules.specs.declared.Expr.TheVariants.{Constant, Variable, Cell, Unary, Binary, BadExpr}
 use Rattle.rules.specs.declared.Frame.{Frame}
-use Rattle.rules.specs.declared.Waiting.{Waiting}
-use Rattle.rules.specs.declared.Waiting.TheVariants.{Begin, Nothing}
+use Rattle.std.specs.Prelude.{Option, Some, None}
 use Rattle.rules.specs.Bytes.{Bytes}
 use Rattle.rules.specs.Policy.{Policy, policy_of}
 use Rattle.rules.specs.Recipe.{Recipe, recipe_of}
@@ -36,12 +35,12 @@ pub data Found (R : Recipe) (m : Memory) : ℕ → Type 0 where
   binary : {e a b : ℕ} {op : BinaryOp} → R.expr_at e ≡ Binary op a b → Found R m a → Found R m b → Found R m e
 
 -- the statement to begin is in the table and names what is there
-abbrev pub WaitingThere : Recipe → Waiting → Type 0
-WaitingThere R (Begin s) = (s < R.stmts) × StmtOk R.vars R.exprs s (R.stmt_at s)
-WaitingThere R Nothing = Unit {0}
+abbrev pub WaitingThere : Recipe → Option ℕ → Type 0
+WaitingThere R (Some s) = (s < R.stmts) × StmtOk R.vars R.exprs s (R.stmt_at s)
+WaitingThere R None = Unit {0}
 
 -- so do the frames, whose loops are whiles; the memory has all its places; every expression is found
-pub record There (P : Policy) (R : Recipe) (w : Waiting) (l : List Frame) (m : Memory) : Type 0 where
+pub record There (P : Policy) (R : Recipe) (w : Option ℕ) (l : List Frame) (m : Memory) : Type 0 where
   pub waiting : WaitingThere R w
   pub frames : FramesOk P R l
   pub complete : length m ≡ count R
@@ -78,14 +77,14 @@ module _ {P : Policy} {R : Recipe} (ok : Sound P R) (room : ℕ) where
   standing_reached g (after {y = y} c q) = standing_after (keeps_step ok room y (standing_reached g c)) q
 
   there : (x : State) → StandingIn P R room x → ThereIn P R x
-  there (state b (Begin s) l m r) g =
+  there (state b (Some s) l m r) g =
       record {
         waiting = (g.waiting, ok.ordered.stmts_ok s g.waiting);
         frames = g.frames;
         complete = g.complete;
         values = found R m ok.ordered g.complete;
       }
-  there (state b Nothing l m r) g =
+  there (state b None l m r) g =
       record { waiting = tt; frames = g.frames; complete = g.complete; values = found R m ok.ordered g.complete }
 
 pub no_fallback : (r p m : List ℕ) → Bytes r → Bytes m → Accepted r p m → (room : ℕ) (x : State)

@@ -8,8 +8,7 @@ use lib.ListN.{length}
 use Rattle.rules.specs.declared.Stop.{Stop}
 use Rattle.rules.specs.declared.Place.{Place}
 use Rattle.rules.specs.declared.Frame.{Frame}
-use Rattle.rules.specs.declared.Waiting.{Waiting}
-use Rattle.rules.specs.declared.Waiting.TheVariants.{Nothing}
+use Rattle.std.specs.Prelude.{Option, None}
 use Rattle.rules.specs.declared.End.{End}
 use Rattle.rules.specs.declared.End.TheVariants.{Done, Budget, Stopped}
 use Rattle.rules.specs.Policy.{Policy}
@@ -98,7 +97,7 @@ module _ {P : Policy} {W : Viewer P} where
     -- the first run steps on its hidden branch, beside a run with result z
     one : (room n k : ℕ) (x : State) {K : List Frame} {t : ℕ} {i : Memory} {q : List Record} {u : Turn} (z : Result)
         → shown W (records_in x) ≡ shown W q → Begins q (records_from z)
-        → ((p : ℕ) → n ≡ suc p → (b : ℕ) (o : Waiting) (l : List Frame) (m : Memory) (r : List Record)
+        → ((p : ℕ) → n ≡ suc p → (b : ℕ) (o : Option ℕ) (l : List Frame) (m : Memory) (r : List Record)
         → Side W K t b o l → Alike W m i → shown W r ≡ shown W q → Close W (run P R room p (suc k) (state b o l m r)) z)
         → Beside W K t i q u → Close W (follow P R room n k x u) z
     unfolding follow
@@ -117,7 +116,7 @@ module _ {P : Policy} {W : Viewer P} where
     pair (suc N) room room' n n' k k' less (split {r = r} {q = q} gt sl back back mk rq) =
         both room room' n n' k k' _ _ mk rq (grows_run P R room n k _) (grows_run P R room' n' k' _)
         (λ p p' e e' x y c. pair N room room' p p' (suc k) (suc k') (omega arith) c)
-        (both_step R room room' r q gt mk rq Nothing sl)
+        (both_step R room room' r q gt mk rq None sl)
     pair (suc N) room room' n n' k k' less (split {n = o} {r = r} {q = q} gt sl (inside hb ov) y mk rq) =
         one room n k _ _ rq (grows_run P R room' n' k' _)
         (λ p e b o l m r s mk' rq'. pair N room room' p n' (suc k) k' (omega arith) (split gt sl s y mk' rq'))

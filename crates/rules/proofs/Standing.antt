@@ -20,12 +20,10 @@ use Rattle.rules.specs.declared.Stmt.{Stmt}
 use Rattle.rules.specs.declared.Stmt.TheVariants.{Skip, Assign, Store, Then, If, While, Emit, BadStmt}
 use Rattle.rules.specs.declared.Stop.{Stop}
 use Rattle.rules.specs.declared.Place.{Place}
-use Rattle.rules.specs.declared.Valued.{Valued}
-use Rattle.rules.specs.declared.Valued.TheVariants.{Value, Fault}
+use Rattle.rules.specs.Steps.{Valued, given, unary_of, binary_of, cell_of, value_by, value_within, eval, allow, assigns, stores, emits, chooses, loops, begins, loop_of, loop_in, tests, repeats, State, state, Turn, Goes, Halts, Finished, check, performs, takes, step}
+use Rattle.std.specs.Prelude.{Ok, Err, Option, Some, None}
 use Rattle.rules.specs.declared.Frame.{Frame}
 use Rattle.rules.specs.declared.Frame.TheVariants.{Next, Join, Loop}
-use Rattle.rules.specs.declared.Waiting.{Waiting}
-use Rattle.rules.specs.declared.Waiting.TheVariants.{Begin, Nothing}
 use Rattle.rules.specs.declared.Act.{Act}
 use Rattle.rules.specs.declared.Act.TheVariants.{Passes, Pushes, Writes, Records, Stops}
 use Rattle.rules.specs.declared.Again.{Again}
@@ -36,7 +34,6 @@ use Rattle.rules.specs.Operators.{unary, binary}
 use Rattle.rules.specs.Policy.{Policy}
 use Rattle.rules.specs.Recipe.{Recipe}
 use Rattle.rules.specs.Memory.{Memory, ◌#◌, value_of, tag_of, place_at, write, count, Record, out}
-use Rattle.rules.specs.Steps.{given, unary_of, binary_of, cell_of, value_by, value_within, eval, allow, assigns, stores, emits, chooses, loops, begins, loop_of, loop_in, tests, repeats, State, state, Turn, Goes, Halts, Finished, check, performs, takes, step}
 use Rattle.rules.specs.Run.{Result, result, follow, run, start}
 use Rattle.rules.specs.Accepted.{StmtOk, Ordered}
 use Rattle.rules.proofs.Tests.{picked}
@@ -89,11 +86,11 @@ abbrev pub FramesOk : Policy → Recipe → List Frame → Type 0
 FramesOk P R [] = Unit {0}
 FramesOk P R (f ∷ l) = FrameOk P R f × FramesOk P R l
 
-abbrev pub WaitingOk : Recipe → Waiting → Type 0
-WaitingOk R (Begin s) = s < R.stmts
-WaitingOk R Nothing = Unit {0}
+abbrev pub WaitingOk : Recipe → Option ℕ → Type 0
+WaitingOk R (Some s) = s < R.stmts
+WaitingOk R None = Unit {0}
 
-pub record Standing (P : Policy) (R : Recipe) (room b : ℕ) (w : Waiting) (l : List Frame) (m : Memory) (r : List Record) : Type 0 where
+pub record Standing (P : Policy) (R : Recipe) (room b : ℕ) (w : Option ℕ) (l : List Frame) (m : Memory) (r : List Record) : Type 0 where
   pub branch : Good P b
   pub waiting : WaitingOk R w
   pub frames : FramesOk P R l
@@ -108,7 +105,7 @@ StandingIn P R room (state b w l m r) = Standing P R room b w l m r
 
 -- a step keeps it so
 pub data Keeps (P : Policy) (R : Recipe) (room : ℕ) : Turn → Type 0 where
-  goes : {b : ℕ} {w : Waiting} {l : List Frame} {m : Memory} {r : List Record} → Standing P R room b w l m r → Keeps P R room (Goes (state b w l m r))
+  goes : {b : ℕ} {w : Option ℕ} {l : List Frame} {m : Memory} {r : List Record} → Standing P R room b w l m r → Keeps P R room (Goes (state b w l m r))
   halts : {h : Stop} {s : ℕ} → s < R.stmts → Keeps P R room (Halts h s)
   finishes : Keeps P R room Finished
 
@@ -148,8 +145,8 @@ binary_below NotEqual a b = not_equal_below a b
 
 -- a fault, or a place
 pub data Proper (P : Policy) : Valued → Type 0 where
-  fault : {h : Stop} → Proper P (Fault h)
-  value : {p : Place} → PlaceOk P p → Proper P (Value p)
+  fault : {h : Stop} → Proper P (Err h)
+  value : {p : Place} → PlaceOk P p → Proper P (Ok p)
 
 place# : {P : Policy} {v t : ℕ} → Good P t → v < 2 ^ 32 → PlaceOk P (v # t)
 unfolding value_of tag_of
@@ -161,7 +158,7 @@ module _ {P : Policy} {R : Recipe} (ok : Sound P R) where
   nothing_there : PlaceOk P (0 # 0)
   nothing_there = place# some_tag (omega arith)
 
-  proper_given : (a : Bool) (h : Stop) {p : Place} → PlaceOk P p → Proper P (given a h (Value p))
+  proper_given : (a : Bool) (h : Stop) {p : Place} → PlaceOk P p → Proper P (given a h (Ok p))
   unfolding given
   proper_given true h k = value k
   proper_given false h k = fault
@@ -283,14 +280,14 @@ module _ {P : Policy} {R : Recipe} {room : ℕ} where
   keeps_check true h l k = k refl
   keeps_check false h l k = halts l
 
-  module _ {b : ℕ} {w : Waiting} {l : List Frame} {m : Memory} {r : List Record} (g : Standing P R room b w l m r) where
+  module _ {b : ℕ} {w : Option ℕ} {l : List Frame} {m : Memory} {r : List Record} (g : Standing P R room b w l m r) where
     -- the same memory and records, with another branch tag, statement to begin and stack
-    pub moved : (b' : ℕ) (w' : Waiting) (l' : List Frame) → Good P b' → WaitingOk R w' → FramesOk P R l' → length l' ≤ R.stmts
+    pub moved : (b' : ℕ) (w' : Option ℕ) (l' : List Frame) → Good P b' → WaitingOk R w' → FramesOk P R l' → length l' ≤ R.stmts
         → Standing P R room b' w' l' m r
     moved b' w' l' gb wk fk d =
         record { branch = gb; waiting = wk; frames = fk; depth = d; complete = g.complete; places = g.places; words = g.words; fits = g.fits }
 
-    pub written : {i : ℕ} (p : Place) → i < count R → PlaceOk P p → Standing P R room b Nothing l (write m i p) r
+    pub written : {i : ℕ} (p : Place) → i < count R → PlaceOk P p → Standing P R room b None l (write m i p) r
     written {i} p li k =
         record {
           branch = g.branch;
@@ -303,7 +300,7 @@ module _ {P : Policy} {R : Recipe} {room : ℕ} where
           fits = g.fits;
         }
 
-    pub recorded : (port v : ℕ) → v < 2 ^ 32 → 5 * length r + 5 ≤ room → Standing P R room b Nothing l m (r ++ (out port v ∷ []))
+    pub recorded : (port v : ℕ) → v < 2 ^ 32 → 5 * length r + 5 ≤ room → Standing P R room b None l m (r ++ (out port v ∷ []))
     recorded port v k c =
         record {
           branch = g.branch;
@@ -317,31 +314,31 @@ module _ {P : Policy} {R : Recipe} {room : ℕ} where
         }
 
     keeps_performs : {s : ℕ} → s < R.stmts → {x : Act} → ActOk P R x → Keeps P R room (performs R room s b l m r x)
-    keeps_performs ls passes = goes (moved b Nothing l g.branch tt g.frames g.depth)
+    keeps_performs ls passes = goes (moved b None l g.branch tt g.frames g.depth)
     keeps_performs ls (pushes f {a = a} {t = t} k la gt) =
         keeps_check _ _ ls λ e.
         let d : length l < R.stmts = ltb-true _ _ e in
-        goes (moved t (Begin a) (f ∷ l) gt la (k, g.frames) (omega arith))
+        goes (moved t (Some a) (f ∷ l) gt la (k, g.frames) (omega arith))
     keeps_performs ls (writes {p = p} li k) = goes (written p li k)
     keeps_performs ls (records {port = port} {v = v} k) = keeps_check _ _ ls λ e. goes (recorded port v k (leb-true _ _ e))
     keeps_performs ls stops = halts ls
 
     keeps_takes : (s t : ℕ) → FrameOk P R (Loop s t) → length l < R.stmts → {x : Again} → AgainOk P R x → Keeps P R room (takes R room s b l m r t x)
-    keeps_takes s t f d (repeats_ok {a = a} {t = u} la gu) = goes (moved u (Begin a) (Loop s t ∷ l) gu la (f, g.frames) (omega arith))
-    keeps_takes s t f d leaves = goes (moved t Nothing l f.1 tt g.frames g.depth)
+    keeps_takes s t f d (repeats_ok {a = a} {t = u} la gu) = goes (moved u (Some a) (Loop s t ∷ l) gu la (f, g.frames) (omega arith))
+    keeps_takes s t f d leaves = goes (moved t None l f.1 tt g.frames g.depth)
     keeps_takes s t f d fails = halts f.0
 
 module _ {P : Policy} {R : Recipe} (ok : Sound P R) where
   pub keeps_step : (room : ℕ) (x : State) → StandingIn P R room x → Keeps P R room (step P R room x)
-  keeps_step room (state b (Begin s) l m r) g = keeps_performs g g.waiting (act_ok ok g.waiting g.branch g.places)
-  keeps_step room (state b Nothing (Next a ∷ l) m r) g =
-      goes (moved g b (Begin a) l g.branch g.frames.0 g.frames.1 (omega (arith, g.depth)))
-  keeps_step room (state b Nothing (Join t ∷ l) m r) g =
-      goes (moved g t Nothing l g.frames.0 tt g.frames.1 (omega (arith, g.depth)))
-  keeps_step room (state b Nothing (Loop s t ∷ l) m r) g =
-      let below = moved g b Nothing l g.branch tt g.frames.1 (omega (arith, g.depth)) in
+  keeps_step room (state b (Some s) l m r) g = keeps_performs g g.waiting (act_ok ok g.waiting g.branch g.places)
+  keeps_step room (state b None (Next a ∷ l) m r) g =
+      goes (moved g b (Some a) l g.branch g.frames.0 g.frames.1 (omega (arith, g.depth)))
+  keeps_step room (state b None (Join t ∷ l) m r) g =
+      goes (moved g t None l g.frames.0 tt g.frames.1 (omega (arith, g.depth)))
+  keeps_step room (state b None (Loop s t ∷ l) m r) g =
+      let below = moved g b None l g.branch tt g.frames.1 (omega (arith, g.depth)) in
       keeps_takes below s t g.frames.0 (omega (arith, g.depth)) (again_ok ok g.frames.0.0 g.branch g.places)
-  keeps_step room (state b Nothing [] m r) g = finishes
+  keeps_step room (state b None [] m r) g = finishes
 
   -- ---- runs
 
@@ -377,7 +374,7 @@ abbrev pub LeftBy : Policy → Recipe → (room : ℕ) → Result → Type 0
 LeftBy P R room (result e k m r) = Left P R room e m r
 
 module _ {P : Policy} {R : Recipe} (ok : Sound P R) (room : ℕ) where
-  left : {b : ℕ} {w : Waiting} {l : List Frame} {m : Memory} {r : List Record} → (e : End) → EndOk R e → Standing P R room b w l m r → Left P R room e m r
+  left : {b : ℕ} {w : Option ℕ} {l : List Frame} {m : Memory} {r : List Record} → (e : End) → EndOk R e → Standing P R room b w l m r → Left P R room e m r
   left e k g = record { ends_at = k; complete = g.complete; places = g.places; words = g.words; fits = g.fits }
 
   left_follow : (n k : ℕ) (x : State) {t : Turn} → StandingIn P R room x → Keeps P R room t → LeftBy P R room (follow P R room n k x t)

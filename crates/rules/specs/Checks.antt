@@ -1,8 +1,10 @@
 -- Checks one after the other: the first that fails decides. Assumes nothing.
-use Rattle.std.specs.Prelude.{ℕ, zero, suc, Bool, true, false}
+use Rattle.std.specs.Prelude.{ℕ, zero, suc, Bool, true, false, Result, Ok, Err}
 use Rattle.rules.specs.declared.Refusal.{Refusal}
-use Rattle.rules.specs.declared.Checked.{Checked}
-use Rattle.rules.specs.declared.Checked.TheVariants.{Passed, Failed}
+
+-- what a check finds: nothing to say, or why it refuses
+abbrev pub Checked : Type 0
+Checked = Result (Unit {0}) Refusal
 
 infixl 40 ◌and◌
 unfoldable pub ◌and◌ : Bool → Bool → Bool
@@ -10,17 +12,17 @@ true and b = b
 false and b = false
 
 unfoldable pub require : Bool → Refusal → Checked
-require true x = Passed
-require false x = Failed x
+require true x = Ok tt
+require false x = Err x
 
 infixr 20 ◌and_then◌
 unfoldable pub ◌and_then◌ : Checked → Checked → Checked
-Passed and_then c = c
-Failed x and_then c = Failed x
+(Ok u) and_then c = c
+(Err x) and_then c = Err x
 
 -- the checks of 0, 1, .. below n, upwards
 unfoldable pub up_to : ℕ → (ℕ → Checked) → Checked
-up_to zero f = Passed
+up_to zero f = Ok tt
 up_to (suc n) f = up_to n f and_then f n
 
 -- a test that passes for each number below n

@@ -1,15 +1,13 @@
 -- The machine as a whole: the checks in document 01's order, then the run. Every public promise cites one of these.
 -- Assumes nothing.
-use Rattle.std.specs.Prelude.{ℕ, zero, suc, ◌*◌, Bool, true, false, List, ◌++◌, leb, length, drop}
+use Rattle.std.specs.Prelude.{ℕ, zero, suc, ◌*◌, Bool, true, false, List, ◌++◌, leb, length, drop, Ok, Err}
 use Rattle.rules.specs.declared.Refusal.{Refusal}
 use Rattle.rules.specs.declared.Refusal.TheVariants.{HouseRoom, ReportRoom}
-use Rattle.rules.specs.declared.Checked.{Checked}
-use Rattle.rules.specs.declared.Checked.TheVariants.{Passed, Failed}
+use Rattle.rules.specs.Checks.{Checked, ◌and_then◌}
 use Rattle.rules.specs.declared.End.{End}
 use Rattle.rules.specs.declared.End.TheVariants.{Refused}
 use Rattle.rules.specs.declared.Outcome.{Outcome}
 use Rattle.rules.specs.Bytes.{byte, half_bytes, whole_bytes}
-use Rattle.rules.specs.Checks.{◌and_then◌}
 use Rattle.rules.specs.Policy.{policy_of, check_policy, house_policy}
 use Rattle.rules.specs.Recipe.{recipe_of, check_recipe, check_ports}
 use Rattle.rules.specs.Memory.{places_of, place_bytes, check_memory, record_bytes}
@@ -50,8 +48,8 @@ checks r p m =
     and_then check_memory (recipe_of r) (byte p 6) m
 
 unfoldable pub decided : Checked → (m q : List ℕ) → Judged → Judged
-decided Passed m q x = x
-decided (Failed y) m q x = refused y m q
+decided (Ok u) m q x = x
+decided (Err y) m q x = refused y m q
 
 unfoldable pub judged : (r p m q : List ℕ) (budget : ℕ) → Judged
 judged r p m q budget = decided (checks r p m) m q (written_back q (ran r p m (length q) budget))

@@ -2,9 +2,8 @@
 use Rattle.std.specs.Prelude.{ℕ, zero, suc, ◌+◌, ◌*◌, List, [], ◌∷◌, ◌++◌, ltb, eqb, length, get_or, set, drop}
 use Rattle.rules.specs.declared.Place.{Place}
 use Rattle.rules.specs.declared.Refusal.TheVariants.{MemoryLength, MemoryTag}
-use Rattle.rules.specs.declared.Checked.{Checked}
+use Rattle.rules.specs.Checks.{Checked, require, ◌and_then◌, up_to}
 use Rattle.rules.specs.Bytes.{byte, whole, whole_bytes}
-use Rattle.rules.specs.Checks.{require, ◌and_then◌, up_to}
 use Rattle.rules.specs.Recipe.{Recipe}
 
 -- ---- places

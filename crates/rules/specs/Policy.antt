@@ -1,9 +1,8 @@
 -- The policy table: how its bytes are read, its check by itself (23 to 25), and the house policy. Assumes nothing.
 use Rattle.std.specs.Prelude.{ℕ, ◌+◌, ◌*◌, ◌/◌, ◌%◌, max, Bool, List, [], ◌∷◌, ◌++◌, leb, ltb, eqb, length}
 use Rattle.rules.specs.declared.Refusal.TheVariants.{PolicyHeader, PolicyEntry, PolicyLaw}
-use Rattle.rules.specs.declared.Checked.{Checked}
+use Rattle.rules.specs.Checks.{Checked, ◌and◌, require, ◌and_then◌, up_to, every}
 use Rattle.rules.specs.Bytes.{byte, half}
-use Rattle.rules.specs.Checks.{◌and◌, require, ◌and_then◌, up_to, every}
 
 pub record Policy : Type 0 where
   pub tags : ℕ

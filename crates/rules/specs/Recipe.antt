@@ -7,9 +7,8 @@ use Rattle.rules.specs.declared.Expr.TheVariants.{Constant, Variable, Cell, Unar
 use Rattle.rules.specs.declared.Stmt.{Stmt}
 use Rattle.rules.specs.declared.Stmt.TheVariants.{Skip, Assign, Store, Then, If, While, Emit, BadStmt}
 use Rattle.rules.specs.declared.Refusal.TheVariants.{RecipeLength, RecipeMark, RecipeVersion, RecipeHeader, BadExpression, WideExpression, BadStatement, BadPort}
-use Rattle.rules.specs.declared.Checked.{Checked}
+use Rattle.rules.specs.Checks.{Checked, ◌and◌, require, ◌and_then◌, up_to}
 use Rattle.rules.specs.Bytes.{byte, half, whole}
-use Rattle.rules.specs.Checks.{◌and◌, require, ◌and_then◌, up_to}
 
 pub record Recipe : Type 0 where
   pub exprs : ℕ

@@ -1,8 +1,7 @@
 -- A whole run, step by step. Assumes nothing.
-use Rattle.std.specs.Prelude.{ℕ, zero, suc, ◌-◌, List, []}
+use Rattle.std.specs.Prelude.{ℕ, zero, suc, ◌-◌, List, [], Some}
 use Rattle.rules.specs.declared.End.{End}
 use Rattle.rules.specs.declared.End.TheVariants.{Done, Budget, Stopped}
-use Rattle.rules.specs.declared.Waiting.TheVariants.{Begin}
 use Rattle.rules.specs.Policy.{Policy}
 use Rattle.rules.specs.Recipe.{Recipe}
 use Rattle.rules.specs.Memory.{Memory, Record}
@@ -31,4 +30,4 @@ module _ (P : Policy) (R : Recipe) (room : ℕ) where
 
 -- the run begins at the last statement, with branch tag 0
 abbrev pub start : Recipe → Memory → State
-start R m = state 0 (Begin (R.stmts - 1)) [] m []
+start R m = state 0 (Some (R.stmts - 1)) [] m []

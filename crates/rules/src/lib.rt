@@ -64,25 +64,11 @@ pub enum Stop {
     Frames,
 }
 
-// Evaluation gives a value with its tag, or ends the run.
-#[derive(Clone, Copy)]
-pub enum Valued {
-    Value(Place),
-    Fault(Stop),
-}
-
 #[derive(Clone, Copy)]
 pub enum Frame {
     Next(usize),
     Join(u8),
     Loop(usize, u8),
-}
-
-// The statement to begin, or none.
-#[derive(Clone, Copy)]
-pub enum Waiting {
-    Begin(usize),
-    Nothing,
 }
 
 // What beginning a statement asks of the state: nothing; a frame, with the statement to begin and the branch tag after it;
@@ -124,12 +110,8 @@ pub enum Refusal {
     ReportRoom,
 }
 
-// What a check finds.
-#[derive(Clone, Copy)]
-pub enum Checked {
-    Passed,
-    Failed(Refusal),
-}
+// What a check finds: nothing to say, or why it refuses.
+pub type Checked = Result<(), Refusal>;
 
 // How a run ends; early with the statement carried out.
 #[derive(Clone, Copy)]

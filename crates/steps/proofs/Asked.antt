@@ -8,7 +8,7 @@ use lib.Dec.{ltb}
 use lib.ListN.{get_or}
 use borrow.Author.Tests.{le-ltb, lt-ltb}
 use Rattle.rules.specs.declared.Place.{Place}
-use Rattle.rules.specs.declared.Valued.TheVariants.{Value, Fault}
+use Rattle.std.specs.Prelude.{Ok, Err}
 use Rattle.rules.specs.Bytes.{byte}
 use Rattle.rules.specs.Policy.{policy_of, under}
 use Rattle.rules.specs.Recipe.{recipe_of}
@@ -26,7 +26,7 @@ use Rattle.layout.proofs.Answers.{Worthy, Faulty, is_worth, is_fault}
 -- ---- answers
 
 -- a place is read back from its answer
-module _ (q : Place) {v : ℕ} (l : value_of q < 2 ^ 32) (e : v ≡ answer_of (Value q)) where
+module _ (q : Place) {v : ℕ} (l : value_of q < 2 ^ 32) (e : v ≡ answer_of (Ok q)) where
   pub word_is : v % 4294967296 ≡ value_of q
   word_is = omega arith
 
@@ -41,7 +41,7 @@ module _ {r p t u : List ℕ} (a : Ready r p t u) where
     found : x < 9223372036854775808 → Worthy (policy_of p) x (value_in r p u e)
     found = is_worth a.policy.few_tags valued (q r p a h)
 
-    pub value_found : x < 9223372036854775808 → value_in r p u e ≡ Value (worth_of x)
+    pub value_found : x < 9223372036854775808 → value_in r p u e ≡ Ok (worth_of x)
     value_found l = (found l).is
 
     pub tag_found : x < 9223372036854775808 → x / 4294967296 < byte p 6
@@ -50,7 +50,7 @@ module _ {r p t u : List ℕ} (a : Ready r p t u) where
     pub value_lost : 9223372036854775808 ≤ x → Faulty x (value_in r p u e)
     value_lost = is_fault a.policy.few_tags valued (q r p a h)
 
-    pub value_fault : 9223372036854775808 ≤ x → value_in r p u e ≡ Fault (stop_from (x - 9223372036854775808))
+    pub value_fault : 9223372036854775808 ≤ x → value_in r p u e ≡ Err (stop_from (x - 9223372036854775808))
     value_fault l = rw (value_lost l).back (value_lost l).is
 
   -- ---- places

@@ -6,7 +6,7 @@ use mathlib.Core.Path.{◌≡◌, sym, ◌∙◌}
 use mathlib.Core.List.{List}
 use Rattle.rules.specs.declared.Act.{Act}
 use Rattle.rules.specs.declared.Act.TheVariants.{Passes, Pushes, Writes, Records, Stops}
-use Rattle.rules.specs.declared.Valued.TheVariants.{Value}
+use Rattle.std.specs.Prelude.{Ok}
 use Rattle.rules.specs.Bytes.{byte}
 use Rattle.rules.specs.Policy.{policy_of}
 use Rattle.rules.specs.Recipe.{recipe_of}
@@ -27,7 +27,7 @@ done_one (Records port w) u d e = absurd d
 done_one (Stops x) u d e = (d.0 ∙ sym e.0, d.1 ∙ sym e.1)
 
 -- an answer is that of the place it is read as
-whole : (v : ℕ) → v ≡ answer_of (Value (worth_of v))
+whole : (v : ℕ) → v ≡ answer_of (Ok (worth_of v))
 unfolding value_of tag_of
 whole v = omega arith
 
@@ -44,7 +44,7 @@ pub assign_one : (κs : _) (a : _) (r s : _) (x y : _) → assign.Pre κs a → 
 assign_one κs a r s x y g p q =
     let u = a.1.0.now in
     let v = a.1.1.1.1.0 in
-    let act = assigns (policy_of g.policy) (recipe_of g.recipe) (held_in (recipe_of g.recipe) u) a.1.1.0 a.1.1.1.0 (Value (worth_of v)) in
+    let act = assigns (policy_of g.policy) (recipe_of g.recipe) (held_in (recipe_of g.recipe) u) a.1.1.0 a.1.1.1.0 (Ok (worth_of v)) in
     let tagged = marked v (byte g.policy 6) g.tagged in
     done_one act u
     (p g.recipe g.policy (worth_of v) g.ready g.branch g.there tagged (short v) (whole v))

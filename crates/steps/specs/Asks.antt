@@ -1,10 +1,9 @@
 -- What a statement asks of the places, done: of a recipe r under a policy p, over the places in u and under branch tag b.
 -- Assumes nothing.
-use Rattle.std.specs.Prelude.{ℕ, ◌+◌, ◌/◌, ◌^◌, ◌<◌, ◌≡◌, Bool, List, eqb, get_or, set}
+use Rattle.std.specs.Prelude.{ℕ, ◌+◌, ◌/◌, ◌^◌, ◌<◌, ◌≡◌, Bool, List, eqb, get_or, set, Ok}
 use Rattle.rules.specs.declared.Place.{Place}
 use Rattle.rules.specs.declared.Act.{Act}
 use Rattle.rules.specs.declared.Act.TheVariants.{Passes, Pushes, Writes, Records, Stops}
-use Rattle.rules.specs.declared.Valued.TheVariants.{Value}
 use Rattle.rules.specs.Bytes.{byte}
 use Rattle.rules.specs.Policy.{policy_of}
 use Rattle.rules.specs.Recipe.{recipe_of}
@@ -19,7 +18,7 @@ use Rattle.layout.specs.Answers.{answer_of, worth_of}
 abbrev pub Done : Act → (h : ℕ) → (u v : List ℕ) → Type 0
 Done Passes h u v = ⊥
 Done (Pushes f a t) h u v = ⊥
-Done (Writes i q) h u v = (h ≡ 0) × (v ≡ set u i (answer_of (Value q)))
+Done (Writes i q) h u v = (h ≡ 0) × (v ≡ set u i (answer_of (Ok q)))
 Done (Records port w) h u v = ⊥
 Done (Stops x) h u v = (h ≡ stop_number x) × (v ≡ u)
 
@@ -29,13 +28,13 @@ Done (Stops x) h u v = (h ≡ stop_number x) × (v ≡ u)
 abbrev pub Assigned : (t u : List ℕ) (b i v h : ℕ) (u' : List ℕ) → Type 0
 Assigned t u b i v h u' =
     (r p : List ℕ) (q : Place) → Ready r p t u → b < byte p 6 → i < (recipe_of r).vars → tag_of q < byte p 6 → value_of q < 2 ^ 32
-    → v ≡ answer_of (Value q) → Done (assigns (policy_of p) (recipe_of r) (held_in (recipe_of r) u) b i (Value q)) h u u'
+    → v ≡ answer_of (Ok q) → Done (assigns (policy_of p) (recipe_of r) (held_in (recipe_of r) u) b i (Ok q)) h u u'
 
 -- the cell of index x is given the value v
 abbrev pub StoredAt : (t u : List ℕ) (b x v h : ℕ) (u' : List ℕ) → Type 0
 StoredAt t u b x v h u' =
     (r p : List ℕ) → Ready r p t u → b < byte p 6 → x / 4294967296 < byte p 6 → v / 4294967296 < byte p 6
-    → Done (stores (policy_of p) (recipe_of r) (held_in (recipe_of r) u) b (Value (worth_of x)) (Value (worth_of v))) h u u'
+    → Done (stores (policy_of p) (recipe_of r) (held_in (recipe_of r) u) b (Ok (worth_of x)) (Ok (worth_of v))) h u u'
 
 -- the cell that expression i names is given what expression e gives
 abbrev pub Stored : (t u : List ℕ) (b i e h : ℕ) (u' : List ℕ) → Type 0

@@ -6,14 +6,14 @@ use Rattle.rules.proofs.Accepts.{recipe_well_formed, policy_lawful}
 use Rattle.machine.proofs.InOrder.{at_recipe, at_policy, at_ports, at_memory}
 use Rattle.machine.proofs.check.Goals as goal
 
-pub returns-in-Failed : goal.returns-in-Failed
-returns-in-Failed c = at_recipe _ _ _ c.check_recipe-c.ensures c.in-Failed.is
+pub returns-in-Err : goal.returns-in-Err
+returns-in-Err c = at_recipe _ _ _ c.check_recipe-c.ensures c.in-Err.is
 
-pub returns-in-Failed-c : goal.returns-in-Failed-c
-returns-in-Failed-c c =
+pub returns-in-Err-c : goal.returns-in-Err-c
+returns-in-Err-c c =
     let check-recipe = c.check_recipe-c in
     let check-policy = c.check_policy-c in
-    at_policy _ _ _ check-recipe.ensures c.in_default.is check-policy.ensures c.in-Failed-c.is
+    at_policy _ _ _ check-recipe.ensures c.in_default.is check-policy.ensures c.in-Err-c.is
 
 pub bounds-p-7 : goal.bounds-p-7
 bounds-p-7 c =
@@ -26,12 +26,12 @@ check_ports-c-requires c =
     let check-recipe = c.check_recipe-c in
     recipe_well_formed _ (sym check-recipe.ensures ∙ c.in_default.is)
 
-pub returns-in-Failed-c-2 : goal.returns-in-Failed-c-2
-returns-in-Failed-c-2 c =
+pub returns-in-Err-c-2 : goal.returns-in-Err-c-2
+returns-in-Err-c-2 c =
     let check-recipe = c.check_recipe-c in
     let check-policy = c.check_policy-c in
     let check-ports = c.check_ports-c in
-    at_ports _ _ _ check-recipe.ensures c.in_default.is check-policy.ensures c.in_default-c.is check-ports.ensures c.in-Failed-c-2.is
+    at_ports _ _ _ check-recipe.ensures c.in_default.is check-policy.ensures c.in_default-c.is check-ports.ensures c.in-Err-c-2.is
 
 pub half_at-requires : goal.half_at-requires
 half_at-requires c =

@@ -13,11 +13,11 @@ returns-then-not-header_ok c = sym (stops _ (fails _ (denied c.header_ok.ensures
 pub check_entries-found-requires : goal.check_entries-found-requires
 check_entries-found-requires c = headed _ (held c.header_ok.ensures c.if-not-header_ok.false)
 
-pub returns-in-Failed : goal.returns-in-Failed
+pub returns-in-Err : goal.returns-in-Err
 unfolding check_policy
-returns-in-Failed c =
+returns-in-Err c =
     let header = held c.header_ok.ensures c.if-not-header_ok.false in
-    let entries = sym c.check_entries-found.ensures ∙ c.in-Failed.is in
+    let entries = sym c.check_entries-found.ensures ∙ c.in-Err.is in
     sym (next _ (passes _ header) ∙ stops _ entries)
 
 pub laws_ok-requires : goal.laws_ok-requires
