@@ -2,7 +2,7 @@
 use Prim.Native.Nat.{ℕ, ◌+◌, ◌*◌, ◌<◌, ◌≤◌}
 use native.Mathlib.Omega.{arith}
 use mathlib.Core.Path.{◌≡◌, refl, sym, ap, ◌∙◌}
-use mathlib.Core.Bool.{Bool, true, false}
+use mathlib.Core.Bool.{Bool, true, false, ◌&&◌}
 use mathlib.Core.List.{List}
 use borrow.Author.Count.{below_more}
 use lib.ListN.{length, get_or, set, length-set}
@@ -13,7 +13,6 @@ use Rattle.rules.specs.declared.Stmt.{Stmt}
 use Rattle.rules.specs.declared.Stmt.TheVariants.{Skip, Assign, Store, Then, If, While, Emit, BadStmt}
 use Rattle.rules.specs.Bytes.{byte}
 use Rattle.rules.specs.Policy.{policy_of}
-use Rattle.rules.specs.Checks.{◌and◌}
 use Rattle.rules.specs.Recipe.{Recipe, recipe_of}
 use Rattle.rules.specs.Accepted.{ExprOk, StmtOk, WellFormed, LawfulPolicy}
 use Rattle.layout.specs.Tables.{leaf, place_of, code_of, ExprAs, StmtAs, Decoded}
@@ -89,7 +88,7 @@ leaf_read R t a (Constant w) k z = (refl, k.left)
 leaf_read R t a (Variable v) k z = (refl, k.left)
 leaf_read R t a (Cell i) k z = absurd (code_some (leaf (R.expr_at i)) 1 (omega arith) (sym k.code ∙ z))
 leaf_read R t a (Unary op x) k z = absurd (code_some (leaf (R.expr_at x)) _ (omega (arith, unary_range op)) (sym k.code ∙ z))
-leaf_read R t a (Binary op x y) k z = absurd (code_some (leaf (R.expr_at x) and leaf (R.expr_at y)) _ (omega (arith, binary_range op)) (sym k.code ∙ z))
+leaf_read R t a (Binary op x y) k z = absurd (code_some (leaf (R.expr_at x) && leaf (R.expr_at y)) _ (omega (arith, binary_range op)) (sym k.code ∙ z))
 leaf_read R t a BadExpr k z = (refl, k.left)
 
 inner_read : (R : Recipe) (t : List ℕ) (a : ℕ) (x : Expr) → ExprAs R t a x → (get_or t (4 * a) 0 ≡ 0 → ⊥) → leaf x ≡ false
@@ -100,8 +99,7 @@ inner_read R t a (Unary op x) k n = refl
 inner_read R t a (Binary op x y) k n = refl
 inner_read R t a BadExpr k n = absurd (n k.code)
 
-and_false : (x : Bool) → x and false ≡ false
-unfolding ◌and◌
+and_false : (x : Bool) → x && false ≡ false
 and_false true = refl
 and_false false = refl
 
@@ -116,14 +114,12 @@ module _ (R : Recipe) (t : List ℕ) (k a : ℕ) (l : ExprAs R t a (R.expr_at a)
 
   module _ (b : ℕ) (m : ExprAs R t b (R.expr_at b)) where
     pub two_leaves : get_or t (4 * a) 0 ≡ 0 → get_or t (4 * b) 0 ≡ 0 → fields_of k (get_or t (4 * a + 1) 0) (get_or t (4 * b + 1) 0) 0 ≡ two_operands R k a b
-    unfolding ◌and◌
     two_leaves y z =
         let g = leaf_read R t a (R.expr_at a) l y in
         let h = leaf_read R t b (R.expr_at b) m z in
         rw (g.0, h.0, g.1, h.1)
 
     pub first_inner : (get_or t (4 * a) 0 ≡ 0 → ⊥) → fields_of (16 + k) a b 0 ≡ two_operands R k a b
-    unfolding ◌and◌
     first_inner n = rw (inner_read R t a (R.expr_at a) l n)
 
     pub second_inner : (get_or t (4 * b) 0 ≡ 0 → ⊥) → fields_of (16 + k) a b 0 ≡ two_operands R k a b

@@ -2,7 +2,7 @@
 use Prim.Native.Nat.{ℕ, zero, suc, ◌+◌, ◌-◌, ◌*◌, ◌<◌, ◌≤◌}
 use native.Mathlib.Omega.{arith}
 use mathlib.Core.Path.{◌≡◌, refl, sym, ap, ◌∙◌}
-use mathlib.Core.Bool.{Bool, true, false, false≢true}
+use mathlib.Core.Bool.{Bool, true, false, false≢true, ◌&&◌}
 use mathlib.Core.List.{List, [], ◌∷◌}
 use lib.Dec.{ltb}
 use lib.ListN.{get_or}
@@ -19,7 +19,6 @@ use Rattle.rules.specs.declared.Place.{Place}
 use Rattle.rules.specs.Steps.{Valued, given, unary_of, binary_of, cell_of, value_by}
 use Rattle.std.specs.Prelude.{Ok, Err}
 use Rattle.rules.specs.Bytes.{byte}
-use Rattle.rules.specs.Checks.{◌and◌}
 use Rattle.rules.specs.Policy.{Policy, policy_of}
 use Rattle.rules.specs.Recipe.{Recipe, recipe_of}
 use Rattle.rules.specs.Memory.{Memory, value_of, tag_of, count}
@@ -192,9 +191,8 @@ module _ {r p t u : List ℕ} (a : Ready r p t u) where
         }))
 
     two : (n i j : ℕ) {o : Valued} → i < e → j < e → 5 ≤ n → n < 14 → (b c : Bool) → leaf (R.expr_at i) ≡ b → leaf (R.expr_at j) ≡ c
-        → k ≡ code_of (b and c) n → l ≡ operand_of R (b and c) i → m ≡ operand_of R (b and c) j
+        → k ≡ code_of (b && c) n → l ≡ operand_of R (b && c) i → m ≡ operand_of R (b && c) j
         → o ≡ op_of n (value_in r p u i) (value_in r p u j) → Kind e k l m o
-    unfolding ◌and◌
     two n i j h d f g true true q s k l m v =
         let x = leaf_at i (omega arith) q in
         let y = leaf_at j (omega arith) s in

@@ -1,7 +1,7 @@
 -- The decoded tables: one array of 16-bit numbers, filled once from an accepted recipe and policy. Expression e stands at 4 e,
 -- statement s at 4096 + 4 s, join (a,b) at 8192 + 16 a + b, the clearance of a port at 8448 + port, the numbers of variables and
 -- of cells at 8464 and 8465. Assumes nothing.
-use Rattle.std.specs.Prelude.{ℕ, ◌+◌, ◌-◌, ◌*◌, ◌<◌, ◌≡◌, Bool, true, false, List, [], ◌∷◌, get_or}
+use Rattle.std.specs.Prelude.{ℕ, ◌+◌, ◌-◌, ◌*◌, ◌<◌, ◌≡◌, Bool, true, false, List, [], ◌∷◌, get_or, ◌&&◌}
 use Rattle.rules.specs.declared.UnaryOp.{UnaryOp}
 use Rattle.rules.specs.declared.UnaryOp.TheVariants.{Negate, Not, Absolute}
 use Rattle.rules.specs.declared.BinaryOp.{BinaryOp}
@@ -10,7 +10,6 @@ use Rattle.rules.specs.declared.Expr.{Expr}
 use Rattle.rules.specs.declared.Expr.TheVariants.{Constant, Variable, Cell, Unary, Binary, BadExpr}
 use Rattle.rules.specs.declared.Stmt.{Stmt}
 use Rattle.rules.specs.declared.Stmt.TheVariants.{Skip, Assign, Store, Then, If, While, Emit, BadStmt}
-use Rattle.rules.specs.Checks.{◌and◌}
 use Rattle.rules.specs.Policy.{Policy}
 use Rattle.rules.specs.Recipe.{Recipe}
 
@@ -65,7 +64,7 @@ place_of e (Binary op a b) = 0
 place_of e BadExpr = 0
 
 abbrev pub both_leaves : Recipe → (a b : ℕ) → Bool
-both_leaves R a b = leaf (R.expr_at a) and leaf (R.expr_at b)
+both_leaves R a b = leaf (R.expr_at a) && leaf (R.expr_at b)
 
 -- an expression is flat if its operands are leaves
 abbrev pub flat : Recipe → Expr → Bool

@@ -2,12 +2,12 @@
 use Prim.Native.Nat.{ℕ, ◌+◌, ◌*◌, ◌<◌, ◌≤◌}
 use native.Mathlib.Omega.{arith}
 use mathlib.Core.Path.{◌≡◌, refl, sym}
-use mathlib.Core.Bool.{Bool, true, false}
+use mathlib.Core.Bool.{Bool, true, false, ◌&&◌}
 use mathlib.Core.List.{List}
 use lib.ListN.{length}
 use borrow.Author.Tests.{eqb-true, le-leb, lt-leb, eq-eqb, ne_eqb}
 use Rattle.rules.specs.declared.Refusal.TheVariants.{RecipeLength, RecipeMark, RecipeVersion, RecipeHeader}
-use Rattle.rules.specs.Checks.{Checked, ◌and◌, require, ◌and_then◌, up_to}
+use Rattle.rules.specs.Checks.{Checked, require, ◌and_then◌, up_to}
 use Rattle.std.specs.Prelude.{Ok, Err}
 use Rattle.rules.specs.Bytes.{half}
 use Rattle.rules.specs.Recipe.{recipe_of, mark_ok, zeros_ok, counts_ok, check_expr, check_stmt, check_header, check_recipe}
@@ -16,8 +16,7 @@ use Rattle.rules.proofs.Checks.{required, second}
 -- ---- tests
 
 -- one that fails, whatever was tested before it
-pub any_and_false : (a : Bool) → (a and false) ≡ false
-unfolding ◌and◌
+pub any_and_false : (a : Bool) → (a && false) ≡ false
 any_and_false true = refl
 any_and_false false = refl
 
@@ -39,21 +38,21 @@ module _ (r : List ℕ) (long : 16 ≤ length r) where
 
     module _ (version : half r 3 ≡ 1) where
       pub no_zeros : zeros_ok r ≡ false → Err RecipeHeader ≡ check_header r
-      unfolding check_header require ◌and_then◌ ◌and◌
+      unfolding check_header require ◌and_then◌
       no_zeros h = rw (le-leb _ _ long, mark, eq-eqb _ _ version, h)
 
       module _ (zeros : zeros_ok r ≡ true) where
         pub no_counts : counts_ok (recipe_of r) ≡ false → Err RecipeHeader ≡ check_header r
-        unfolding check_header require ◌and_then◌ ◌and◌
+        unfolding check_header require ◌and_then◌
         no_counts h = rw (le-leb _ _ long, mark, eq-eqb _ _ version, zeros, h)
 
         module _ (counts : counts_ok (recipe_of r) ≡ true) where
           pub no_length : (length r ≡ 16 + 8 * half r 6 + 8 * half r 8 → ⊥) → Err RecipeLength ≡ check_header r
-          unfolding check_header require ◌and_then◌ ◌and◌
+          unfolding check_header require ◌and_then◌
           no_length h = rw (le-leb _ _ long, mark, eq-eqb _ _ version, zeros, counts, ne_eqb _ _ h)
 
           pub header : length r ≡ 16 + 8 * half r 6 + 8 * half r 8 → Ok tt ≡ check_header r
-          unfolding check_header require ◌and_then◌ ◌and◌
+          unfolding check_header require ◌and_then◌
           header h = rw (le-leb _ _ long, mark, eq-eqb _ _ version, zeros, counts, eq-eqb _ _ h)
 
 -- ---- the whole

@@ -13,13 +13,15 @@ use tables::{expr_at, half_at, stmt_at};
 
 // ---- the header
 
+#[tactic(auto, unfolding(rules::specs::Recipe::mark_ok))]
 fn mark_ok(r: &[u8]) -> bool
     requires { 16 ≤ length r.now }
     ensures { result ≡ mark_ok r.now }
 {
-    r[0] == 0x52 && (r[1] == 0x4A && r[2] == 0x52)
+    r.starts_with(b"RJR")
 }
 
+#[tactic(auto, unfolding(rules::specs::Recipe::zeros_ok))]
 fn zeros_ok(r: &[u8]) -> bool
     requires { 16 ≤ length r.now }
     ensures { result ≡ zeros_ok r.now }
@@ -27,52 +29,43 @@ fn zeros_ok(r: &[u8]) -> bool
     r[5] == 0 && half_at(r, 14) == 0
 }
 
+#[tactic(auto, unfolding(rules::specs::Recipe::counts_ok))]
 fn counts_ok(r: &[u8]) -> bool
     requires { 16 ≤ length r.now }
     ensures { result ≡ counts_ok (recipe_of r.now) }
 {
-    if 1024 < half_at(r, 6) {
-        return false;
-    }
     let stmts = half_at(r, 8);
-    if stmts < 1 {
-        return false;
-    }
-    if 512 < stmts {
-        return false;
-    }
-    if 64 < half_at(r, 10) {
-        return false;
-    }
-    half_at(r, 12) <= 1024
+    half_at(r, 6) <= 1024 && 1 <= stmts && stmts <= 512 && half_at(r, 10) <= 64 && half_at(r, 12) <= 1024
 }
 
+#[tactic(auto, using(crate::proofs::Order::too_short, crate::proofs::Order::no_mark, crate::proofs::Order::no_version, crate::proofs::Order::no_zeros, crate::proofs::Order::no_counts, crate::proofs::Order::no_length, crate::proofs::Order::header))]
 fn check_header(r: &[u8]) -> Checked
     ensures { result ≡ check_header r.now }
 {
     if r.len() < 16 {
-        return Checked::Failed(Refusal::RecipeLength);
+        return Err(Refusal::RecipeLength);
     }
     if !mark_ok(r) {
-        return Checked::Failed(Refusal::RecipeMark);
+        return Err(Refusal::RecipeMark);
     }
     if half_at(r, 3) != 1 {
-        return Checked::Failed(Refusal::RecipeVersion);
+        return Err(Refusal::RecipeVersion);
     }
     if !zeros_ok(r) {
-        return Checked::Failed(Refusal::RecipeHeader);
+        return Err(Refusal::RecipeHeader);
     }
     if !counts_ok(r) {
-        return Checked::Failed(Refusal::RecipeHeader);
+        return Err(Refusal::RecipeHeader);
     }
     if r.len() != 16 + 8 * half_at(r, 6) + 8 * half_at(r, 8) {
-        return Checked::Failed(Refusal::RecipeLength);
+        return Err(Refusal::RecipeLength);
     }
-    Checked::Passed
+    Ok(())
 }
 
 // ---- expressions
 
+#[tactic(auto, unfolding(rules::specs::Recipe::expr_ok))]
 fn expr_ok(x: Expr, vars: usize, e: usize) -> bool
     ensures { result ≡ expr_ok vars e x }
 {
@@ -88,6 +81,7 @@ fn expr_ok(x: Expr, vars: usize, e: usize) -> bool
 
 // A shared operand is counted at each use, so this makes as many calls as the spread is wide. Every expression below e
 // is narrow already, which bounds the calls by 513 and keeps the sum in range.
+#[tactic(auto, using(crate::proofs::Spreads::lower, crate::proofs::Spreads::operands, crate::proofs::Spreads::spread_is), unfolding(rules::specs::Recipe::spread_by))]
 fn spread(r: &[u8], e: usize) -> usize
     requires { Reached r.now e }
     ensures { result ≡ spread (recipe_of r.now) e }
@@ -103,28 +97,27 @@ fn spread(r: &[u8], e: usize) -> usize
     }
 }
 
-#[tactic(auto, using(crate::proofs::Spreads::too_wide))]
+#[tactic(auto, using(rules::proofs::Checks::up_none, rules::proofs::Checks::up_more, rules::proofs::Checks::up_stops, rules::proofs::Checks::passes, rules::proofs::Checks::fails, crate::proofs::Order::finished, rules::proofs::Checks::both_pass, rules::proofs::Checks::stops, crate::proofs::Spreads::too_wide, crate::proofs::Spreads::reached))]
 fn check_exprs(r: &[u8]) -> Checked
     requires { 16 + 8 * (recipe_of r.now).exprs ≤ length r.now }
     ensures { result ≡ up_to (recipe_of r.now).exprs (check_expr (recipe_of r.now)) }
 {
     let exprs = half_at(r, 6);
     let vars = half_at(r, 10);
-    let mut e = 0;
-    while e < exprs {
+    for e in 0..exprs {
         if !expr_ok(expr_at(r, e), vars, e) {
-            return Checked::Failed(Refusal::BadExpression(e));
+            return Err(Refusal::BadExpression(e));
         }
         if 256 < spread(r, e) {
-            return Checked::Failed(Refusal::WideExpression(e));
+            return Err(Refusal::WideExpression(e));
         }
-        e += 1;
     }
-    Checked::Passed
+    Ok(())
 }
 
 // ---- statements
 
+#[tactic(auto, unfolding(rules::specs::Recipe::stmt_ok))]
 fn stmt_ok(x: Stmt, vars: usize, exprs: usize, s: usize) -> bool
     ensures { result ≡ stmt_ok vars exprs s x }
 {
@@ -133,13 +126,14 @@ fn stmt_ok(x: Stmt, vars: usize, exprs: usize, s: usize) -> bool
         Stmt::Assign(i, a) => i < vars && a < exprs,
         Stmt::Store(i, a) => i < exprs && a < exprs,
         Stmt::Then(a, b) => a < s && b < s,
-        Stmt::If(a, b, c) => a < exprs && (b < s && c < s),
+        Stmt::If(a, b, c) => a < exprs && b < s && c < s,
         Stmt::While(a, b) => a < exprs && b < s,
         Stmt::Emit(_, a) => a < exprs,
         Stmt::BadStmt => false,
     }
 }
 
+#[tactic(auto, using(rules::proofs::Checks::up_none, rules::proofs::Checks::up_more, rules::proofs::Checks::up_stops, rules::proofs::Checks::passes, rules::proofs::Checks::fails, crate::proofs::Order::finished))]
 fn check_stmts(r: &[u8]) -> Checked
     requires { 16 + 8 * (recipe_of r.now).exprs + 8 * (recipe_of r.now).stmts ≤ length r.now }
     ensures { result ≡ up_to (recipe_of r.now).stmts (check_stmt (recipe_of r.now)) }
@@ -147,32 +141,28 @@ fn check_stmts(r: &[u8]) -> Checked
     let exprs = half_at(r, 6);
     let stmts = half_at(r, 8);
     let vars = half_at(r, 10);
-    let mut s = 0;
-    while s < stmts {
+    for s in 0..stmts {
         if !stmt_ok(stmt_at(r, s), vars, exprs, s) {
-            return Checked::Failed(Refusal::BadStatement(s));
+            return Err(Refusal::BadStatement(s));
         }
-        s += 1;
     }
-    Checked::Passed
+    Ok(())
 }
 
 // ---- the whole check
 
+#[tactic(auto, using(rules::proofs::Checks::next, rules::proofs::Checks::stops, crate::proofs::Order::exact), unfolding(rules::specs::Recipe::check_recipe))]
 pub fn check_recipe(r: &[u8]) -> Checked
     ensures { result ≡ check_recipe r.now }
 {
-    match check_header(r) {
-        Checked::Passed => match check_exprs(r) {
-            Checked::Passed => check_stmts(r),
-            Checked::Failed(x) => Checked::Failed(x),
-        },
-        Checked::Failed(x) => Checked::Failed(x),
-    }
+    check_header(r)?;
+    check_exprs(r)?;
+    check_stmts(r)
 }
 
 // ---- ports
 
+#[tactic(auto, unfolding(rules::specs::Recipe::port_ok))]
 fn port_ok(x: Stmt, ports: u8) -> bool
     ensures { result ≡ port_ok ports x }
 {
@@ -182,17 +172,16 @@ fn port_ok(x: Stmt, ports: u8) -> bool
     port < ports
 }
 
+#[tactic(auto, using(rules::proofs::Checks::up_none, rules::proofs::Checks::up_more, rules::proofs::Checks::up_stops, rules::proofs::Checks::passes, rules::proofs::Checks::fails, crate::proofs::Order::finished), unfolding(rules::specs::Recipe::check_ports))]
 pub fn check_ports(r: &[u8], ports: u8) -> Checked
     requires { WellFormed r.now }
     ensures { result ≡ check_ports (recipe_of r.now) ports }
 {
     let stmts = half_at(r, 8);
-    let mut s = 0;
-    while s < stmts {
+    for s in 0..stmts {
         if !port_ok(stmt_at(r, s), ports) {
-            return Checked::Failed(Refusal::BadPort(s));
+            return Err(Refusal::BadPort(s));
         }
-        s += 1;
     }
-    Checked::Passed
+    Ok(())
 }

@@ -3,7 +3,7 @@
 use Prim.Native.Nat.{ℕ, ◌<◌, ◌≤◌}
 use native.Mathlib.Omega.{arith}
 use mathlib.Core.Path.{◌≡◌, refl}
-use mathlib.Core.Bool.{true}
+use mathlib.Core.Bool.{true, ◌&&◌}
 use mathlib.Core.List.{List}
 use lib.Dec.{ltb, eqb}
 use lib.ListN.{length}
@@ -14,7 +14,6 @@ use Rattle.rules.specs.declared.Stmt.{Stmt}
 use Rattle.rules.specs.declared.Stmt.TheVariants.{Skip, Assign, Store, Then, If, While, Emit, BadStmt}
 use Rattle.std.specs.Prelude.{Ok}
 use Rattle.rules.specs.Bytes.{byte}
-use Rattle.rules.specs.Checks.{◌and◌}
 use Rattle.rules.specs.Recipe.{Recipe, recipe_of, mark_ok, zeros_ok, counts_ok, expr_ok, stmt_ok, check_expr, check_stmt, check_header, check_recipe, port_ok, check_ports}
 use Rattle.rules.specs.Policy.{Policy, policy_of, policy_header_ok, law_at, laws_ok, check_entry, check_policy}
 use Rattle.rules.specs.Memory.{count, places_of, check_tag, check_memory}
@@ -44,10 +43,10 @@ ok_expr v e (Binary op a b) h = and_both (lt-ltb a e h.0) (lt-ltb b e h.1)
 ok_expr v e BadExpr h = absurd h
 
 -- two orders in one test
-two : (a b c d : ℕ) → (ltb a b and ltb c d) ≡ true → (a < b) × (c < d)
+two : (a b c d : ℕ) → (ltb a b && ltb c d) ≡ true → (a < b) × (c < d)
 two a b c d h = (ltb-true a b (and_left (ltb a b) (ltb c d) h), ltb-true c d (and_right (ltb a b) (ltb c d) h))
 
-two_back : (a b c d : ℕ) → (a < b) × (c < d) → (ltb a b and ltb c d) ≡ true
+two_back : (a b c d : ℕ) → (a < b) × (c < d) → (ltb a b && ltb c d) ≡ true
 two_back a b c d h = and_both (lt-ltb a b h.0) (lt-ltb c d h.1)
 
 pub stmt_ok_lem : (v e s : ℕ) (x : Stmt) → stmt_ok v e s x ≡ true → StmtOk v e s x
@@ -57,8 +56,8 @@ stmt_ok_lem v e s (Assign x a) h = two x v a e h
 stmt_ok_lem v e s (Store i a) h = two i e a e h
 stmt_ok_lem v e s (Then a b) h = two a s b s h
 stmt_ok_lem v e s (If a b c) h =
-    let f = two a e b s (and_left (ltb a e and ltb b s) (ltb c s) h) in
-    (f.0, f.1, ltb-true c s (and_right (ltb a e and ltb b s) (ltb c s) h))
+    let f = two a e b s (and_left (ltb a e && ltb b s) (ltb c s) h) in
+    (f.0, f.1, ltb-true c s (and_right (ltb a e && ltb b s) (ltb c s) h))
 stmt_ok_lem v e s (While a b) h = two a e b s h
 stmt_ok_lem v e s (Emit port a) h = ltb-true a e h
 stmt_ok_lem v e s BadStmt h = let z : ◌≡◌ {A = ℕ} 0 1 = cc in omega arith
@@ -122,12 +121,12 @@ counts_back R c =
     (le-leb _ _ c.few_cells)
 
 -- three bytes in one test
-three : (a b c x y z : ℕ) → (eqb a x and eqb b y and eqb c z) ≡ true → (a ≡ x) × (b ≡ y) × (c ≡ z)
+three : (a b c x y z : ℕ) → (eqb a x && eqb b y && eqb c z) ≡ true → (a ≡ x) × (b ≡ y) × (c ≡ z)
 three a b c x y z h =
     let f = and_left _ _ h in
     (eqb-true a x (and_left _ _ f), eqb-true b y (and_right _ _ f), eqb-true c z (and_right _ _ h))
 
-three_back : (a b c x y z : ℕ) → (a ≡ x) × (b ≡ y) × (c ≡ z) → (eqb a x and eqb b y and eqb c z) ≡ true
+three_back : (a b c x y z : ℕ) → (a ≡ x) × (b ≡ y) × (c ≡ z) → (eqb a x && eqb b y && eqb c z) ≡ true
 three_back a b c x y z h = and_both (and_both (eq-eqb a x h.0) (eq-eqb b y h.1)) (eq-eqb c z h.2)
 
 pub recipe_well_formed : (r : List ℕ) → check_recipe r ≡ Ok tt → WellFormed r

@@ -4,12 +4,12 @@ use native.Mathlib.Omega.{arith}
 use native.Mathlib.Nat.{max_comm, zero-max}
 use native.Mathlib.Decide.{dec_lt}
 use mathlib.Core.Path.{◌≡◌, refl}
-use mathlib.Core.Bool.{Bool, true}
+use mathlib.Core.Bool.{Bool, true, ◌&&◌}
 use lib.Dec.{eqb}
 use borrow.Author.Tests.{eqb-true}
 use Rattle.std.specs.Prelude.{Ok}
 use Rattle.rules.specs.Bytes.{byte}
-use Rattle.rules.specs.Checks.{◌and◌, every}
+use Rattle.rules.specs.Checks.{every}
 use Rattle.rules.specs.Policy.{Policy, policy_of, union_of, house_header, house_joins, house_policy, check_policy}
 use Rattle.rules.specs.Accepted.{Laws, LawfulPolicy}
 use Rattle.rules.proofs.Checks.{each}
@@ -21,7 +21,7 @@ right : ℕ → Bool
 right k = eqb (byte house_policy (8 + k)) (union_of (k / 16) (k % 16))
 
 all_right : every 256 right ≡ true
-unfolding every ◌and◌ right house_policy house_header house_joins union_of
+unfolding every right house_policy house_header house_joins union_of
 all_right = refl
 
 entry : (k : ℕ) → k < 256 → byte house_policy (8 + k) ≡ union_of (k / 16) (k % 16)
@@ -97,7 +97,7 @@ whole_again : ℕ → Bool
 whole_again a = eqb (four (a / 8 % 2) (a / 4 % 2) (a / 2 % 2) (a / 1 % 2)) a
 
 all_whole : every 16 whole_again ≡ true
-unfolding every ◌and◌ whole_again
+unfolding every whole_again
 all_whole = refl
 
 split : (a : ℕ) → a < 16 → four (a / 8 % 2) (a / 4 % 2) (a / 2 % 2) (a / 1 % 2) ≡ a

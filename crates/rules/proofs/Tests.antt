@@ -1,22 +1,18 @@
 -- Tests and what they say. Assumes nothing.
 use Prim.Native.Nat.{ℕ, zero, suc}
 use mathlib.Core.Path.{◌≡◌, refl, sym, ◌∙◌}
-use mathlib.Core.Bool.{Bool, true, false}
-use Rattle.rules.specs.Checks.{◌and◌}
+use mathlib.Core.Bool.{Bool, true, false, ◌&&◌}
 use Rattle.rules.specs.Steps.{test}
 
-pub and_left : (a b : Bool) → (a and b) ≡ true → a ≡ true
-unfolding ◌and◌
+pub and_left : (a b : Bool) → (a && b) ≡ true → a ≡ true
 and_left true b e = refl
 and_left false b e = e
 
-pub and_right : (a b : Bool) → (a and b) ≡ true → b ≡ true
-unfolding ◌and◌
+pub and_right : (a b : Bool) → (a && b) ≡ true → b ≡ true
 and_right true b e = e
 and_right false b e = cc
 
-pub and_both : {a b : Bool} → a ≡ true → b ≡ true → (a and b) ≡ true
-unfolding ◌and◌
+pub and_both : {a b : Bool} → a ≡ true → b ≡ true → (a && b) ≡ true
 and_both e f = rw (e, f)
 
 -- a test that cannot pass fails

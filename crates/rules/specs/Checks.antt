@@ -1,15 +1,10 @@
 -- Checks one after the other: the first that fails decides. Assumes nothing.
-use Rattle.std.specs.Prelude.{ℕ, zero, suc, Bool, true, false, Result, Ok, Err}
+use Rattle.std.specs.Prelude.{ℕ, zero, suc, Bool, true, false, ◌&&◌, Result, Ok, Err}
 use Rattle.rules.specs.declared.Refusal.{Refusal}
 
 -- what a check finds: nothing to say, or why it refuses
 abbrev pub Checked : Type 0
 Checked = Result (Unit {0}) Refusal
-
-infixl 40 ◌and◌
-unfoldable pub ◌and◌ : Bool → Bool → Bool
-true and b = b
-false and b = false
 
 unfoldable pub require : Bool → Refusal → Checked
 require true x = Ok tt
@@ -28,4 +23,4 @@ up_to (suc n) f = up_to n f and_then f n
 -- a test that passes for each number below n
 unfoldable pub every : ℕ → (ℕ → Bool) → Bool
 every zero f = true
-every (suc n) f = every n f and f n
+every (suc n) f = every n f && f n

@@ -1,7 +1,7 @@
 -- The policy table: how its bytes are read, its check by itself (23 to 25), and the house policy. Assumes nothing.
-use Rattle.std.specs.Prelude.{ℕ, ◌+◌, ◌*◌, ◌/◌, ◌%◌, max, Bool, List, [], ◌∷◌, ◌++◌, leb, ltb, eqb, length}
+use Rattle.std.specs.Prelude.{ℕ, ◌+◌, ◌*◌, ◌/◌, ◌%◌, max, Bool, List, [], ◌∷◌, ◌++◌, leb, ltb, eqb, length, ◌&&◌}
 use Rattle.rules.specs.declared.Refusal.TheVariants.{PolicyHeader, PolicyEntry, PolicyLaw}
-use Rattle.rules.specs.Checks.{Checked, ◌and◌, require, ◌and_then◌, up_to, every}
+use Rattle.rules.specs.Checks.{Checked, require, ◌and_then◌, up_to, every}
 use Rattle.rules.specs.Bytes.{byte, half}
 
 pub record Policy : Type 0 where
@@ -28,9 +28,9 @@ policy_of p =
 
 unfoldable pub policy_header_ok : List ℕ → Bool
 policy_header_ok p =
-    eqb (byte p 0) 0x52 and eqb (byte p 1) 0x4A and eqb (byte p 2) 0x50 and eqb (half p 3) 1 and eqb (byte p 5) 0
-    and leb 1 (byte p 6) and leb (byte p 6) 16 and leb (byte p 7) 16
-    and eqb (length p) (8 + byte p 6 * byte p 6 + byte p 7)
+    eqb (byte p 0) 0x52 && eqb (byte p 1) 0x4A && eqb (byte p 2) 0x50 && eqb (half p 3) 1 && eqb (byte p 5) 0
+    && leb 1 (byte p 6) && leb (byte p 6) 16 && leb (byte p 7) 16
+    && eqb (length p) (8 + byte p 6 * byte p 6 + byte p 7)
 
 -- the joins and then the clearances, from byte 8 on
 abbrev pub check_entry : List ℕ → ℕ → Checked
@@ -39,8 +39,8 @@ check_entry p i = require (ltb (byte p (8 + i)) (byte p 6)) (PolicyEntry (8 + i)
 -- join is commutative, associative, and gives t for (t,t) and for (0,t)
 unfoldable pub law_at : Policy → (t u w : ℕ) → Bool
 law_at P t u w =
-    eqb (P.join t u) (P.join u t) and eqb (P.join (P.join t u) w) (P.join t (P.join u w))
-    and eqb (P.join t t) t and eqb (P.join 0 t) t
+    eqb (P.join t u) (P.join u t) && eqb (P.join (P.join t u) w) (P.join t (P.join u w))
+    && eqb (P.join t t) t && eqb (P.join 0 t) t
 
 unfoldable pub laws_ok : Policy → Bool
 laws_ok P = every P.tags λ t. every P.tags λ u. every P.tags λ w. law_at P t u w

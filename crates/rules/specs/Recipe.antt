@@ -1,5 +1,5 @@
 -- The recipe table: how its bytes are read, and its check by itself (16 to 22). Assumes nothing.
-use Rattle.std.specs.Prelude.{ℕ, zero, suc, ◌+◌, ◌*◌, Bool, true, false, List, [], ◌∷◌, leb, ltb, eqb, length, get_or}
+use Rattle.std.specs.Prelude.{ℕ, zero, suc, ◌+◌, ◌*◌, Bool, true, false, List, [], ◌∷◌, leb, ltb, eqb, length, get_or, ◌&&◌}
 use Rattle.rules.specs.declared.UnaryOp.TheVariants.{Negate, Not, Absolute}
 use Rattle.rules.specs.declared.BinaryOp.TheVariants.{Add, Sub, Mul, Div, Rem, Less, LessEq, Equal, NotEqual}
 use Rattle.rules.specs.declared.Expr.{Expr}
@@ -7,7 +7,7 @@ use Rattle.rules.specs.declared.Expr.TheVariants.{Constant, Variable, Cell, Unar
 use Rattle.rules.specs.declared.Stmt.{Stmt}
 use Rattle.rules.specs.declared.Stmt.TheVariants.{Skip, Assign, Store, Then, If, While, Emit, BadStmt}
 use Rattle.rules.specs.declared.Refusal.TheVariants.{RecipeLength, RecipeMark, RecipeVersion, RecipeHeader, BadExpression, WideExpression, BadStatement, BadPort}
-use Rattle.rules.specs.Checks.{Checked, ◌and◌, require, ◌and_then◌, up_to}
+use Rattle.rules.specs.Checks.{Checked, require, ◌and_then◌, up_to}
 use Rattle.rules.specs.Bytes.{byte, half, whole}
 
 pub record Recipe : Type 0 where
@@ -41,22 +41,22 @@ binary_expr operator a b = get_or
 unfoldable pub expr_of : (kind operator a b : ℕ) → Expr
 expr_of kind operator a b = get_or
     (BadExpr
-    ∷ expr_if (eqb operator 0 and eqb a 0) (Constant b)
-    ∷ expr_if (eqb operator 0 and eqb b 0) (Variable a)
-    ∷ expr_if (eqb operator 0 and eqb b 0) (Cell a)
+    ∷ expr_if (eqb operator 0 && eqb a 0) (Constant b)
+    ∷ expr_if (eqb operator 0 && eqb b 0) (Variable a)
+    ∷ expr_if (eqb operator 0 && eqb b 0) (Cell a)
     ∷ expr_if (eqb b 0) (unary_expr operator a)
     ∷ binary_expr operator a b ∷ []) kind BadExpr
 
 -- a statement by its fields, for kinds 0 to 6
 unfoldable pub stmt_of : (kind port a b c : ℕ) → Stmt
 stmt_of kind port a b c = get_or
-    (stmt_if (eqb port 0 and eqb a 0 and eqb b 0 and eqb c 0) Skip
-    ∷ stmt_if (eqb port 0 and eqb c 0) (Assign a b)
-    ∷ stmt_if (eqb port 0 and eqb c 0) (Store a b)
-    ∷ stmt_if (eqb port 0 and eqb c 0) (Then a b)
+    (stmt_if (eqb port 0 && eqb a 0 && eqb b 0 && eqb c 0) Skip
+    ∷ stmt_if (eqb port 0 && eqb c 0) (Assign a b)
+    ∷ stmt_if (eqb port 0 && eqb c 0) (Store a b)
+    ∷ stmt_if (eqb port 0 && eqb c 0) (Then a b)
     ∷ stmt_if (eqb port 0) (If a b c)
-    ∷ stmt_if (eqb port 0 and eqb c 0) (While a b)
-    ∷ stmt_if (eqb b 0 and eqb c 0) (Emit port a) ∷ []) kind BadStmt
+    ∷ stmt_if (eqb port 0 && eqb c 0) (While a b)
+    ∷ stmt_if (eqb b 0 && eqb c 0) (Emit port a) ∷ []) kind BadStmt
 
 -- the record of 8 bytes that begins at byte i
 unfoldable pub expr : List ℕ → ℕ → Expr
@@ -79,13 +79,13 @@ recipe_of r =
 -- ---- the header
 
 unfoldable pub mark_ok : List ℕ → Bool
-mark_ok r = eqb (byte r 0) 0x52 and eqb (byte r 1) 0x4A and eqb (byte r 2) 0x52
+mark_ok r = eqb (byte r 0) 0x52 && eqb (byte r 1) 0x4A && eqb (byte r 2) 0x52
 
 unfoldable pub zeros_ok : List ℕ → Bool
-zeros_ok r = eqb (byte r 5) 0 and eqb (half r 14) 0
+zeros_ok r = eqb (byte r 5) 0 && eqb (half r 14) 0
 
 unfoldable pub counts_ok : Recipe → Bool
-counts_ok R = leb R.exprs 1024 and leb 1 R.stmts and leb R.stmts 512 and leb R.vars 64 and leb R.cells 1024
+counts_ok R = leb R.exprs 1024 && leb 1 R.stmts && leb R.stmts 512 && leb R.vars 64 && leb R.cells 1024
 
 -- ---- expressions
 
@@ -95,7 +95,7 @@ expr_ok v e (Constant w) = true
 expr_ok v e (Variable x) = ltb x v
 expr_ok v e (Cell i) = ltb i e
 expr_ok v e (Unary op a) = ltb a e
-expr_ok v e (Binary op a b) = ltb a e and ltb b e
+expr_ok v e (Binary op a b) = ltb a e && ltb b e
 expr_ok v e BadExpr = false
 
 -- the spread by the operands' spreads, a shared operand counted at each use
@@ -123,11 +123,11 @@ check_expr R e = require (expr_ok R.vars e (R.expr_at e)) (BadExpression e) and_
 -- statement s names what is there: variables, expressions, and statements lower than itself
 unfoldable pub stmt_ok : (v e s : ℕ) → Stmt → Bool
 stmt_ok v e s Skip = true
-stmt_ok v e s (Assign x a) = ltb x v and ltb a e
-stmt_ok v e s (Store i a) = ltb i e and ltb a e
-stmt_ok v e s (Then a b) = ltb a s and ltb b s
-stmt_ok v e s (If a b c) = ltb a e and ltb b s and ltb c s
-stmt_ok v e s (While a b) = ltb a e and ltb b s
+stmt_ok v e s (Assign x a) = ltb x v && ltb a e
+stmt_ok v e s (Store i a) = ltb i e && ltb a e
+stmt_ok v e s (Then a b) = ltb a s && ltb b s
+stmt_ok v e s (If a b c) = ltb a e && ltb b s && ltb c s
+stmt_ok v e s (While a b) = ltb a e && ltb b s
 stmt_ok v e s (Emit port a) = ltb a e
 stmt_ok v e s BadStmt = false
 
@@ -143,7 +143,7 @@ check_header r =
     require (leb 16 (length r)) RecipeLength
     and_then require (mark_ok r) RecipeMark
     and_then require (eqb (half r 3) 1) RecipeVersion
-    and_then require (zeros_ok r and counts_ok R) RecipeHeader
+    and_then require (zeros_ok r && counts_ok R) RecipeHeader
     and_then require (eqb (length r) (16 + 8 * R.exprs + 8 * R.stmts)) RecipeLength
 
 unfoldable pub check_recipe : List ℕ → Checked

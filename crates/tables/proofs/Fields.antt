@@ -2,11 +2,10 @@
 use Prim.Native.Nat.{ℕ, zero, suc, ◌≤◌}
 use native.Mathlib.Omega.{arith}
 use mathlib.Core.Path.{◌≡◌, refl}
-use mathlib.Core.Bool.{Bool, true, false}
+use mathlib.Core.Bool.{Bool, true, false, ◌&&◌}
 use lib.ListN.{get_or-eq_default}
 use Rattle.rules.specs.declared.Expr.TheVariants.{BadExpr}
 use Rattle.rules.specs.declared.Stmt.{Stmt}
-use Rattle.rules.specs.Checks.{◌and◌}
 use Rattle.rules.specs.Recipe.{stmt_if, expr_of}
 
 -- k is none of the numbers below n, as the last arm of a `match` knows it; omega takes no more than six such facts at once
@@ -25,8 +24,8 @@ no_expr zero operator a b h = refl
 no_expr (suc k) operator a b h = let l : 6 ≤ suc k = h (omega arith) in rw get_or-eq_default
 
 -- one test of unused fields after the other is the test of all
-pub all_unused : (p a b c : Bool) (x : Stmt) → stmt_if (p and c) (stmt_if (a and b) x) ≡ stmt_if (p and a and b and c) x
-unfolding stmt_if ◌and◌
+pub all_unused : (p a b c : Bool) (x : Stmt) → stmt_if (p && c) (stmt_if (a && b) x) ≡ stmt_if (p && a && b && c) x
+unfolding stmt_if
 all_unused false a b c x = refl
 all_unused true true true c x = refl
 all_unused true true false true x = refl

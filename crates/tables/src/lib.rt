@@ -1,9 +1,8 @@
 // Little-endian numbers and the records of the recipe table, read from bytes.
 #![tactic(auto)]
 
-ghost use Rattle.std.specs.Prelude.{◌≡◌, ◌+◌, ◌*◌, ◌<◌, eqb, length};
+ghost use Rattle.std.specs.Prelude.{◌≡◌, ◌&&◌, ◌+◌, ◌*◌, ◌<◌, eqb, length};
 ghost use Rattle.rules.specs.Bytes.{half, whole};
-ghost use Rattle.rules.specs.Checks.{◌and◌};
 ghost use Rattle.rules.specs.Recipe.{expr_if, stmt_if, unary_expr, binary_expr, expr_of, stmt_of, recipe_of};
 
 use rules::{BinaryOp, Expr, Stmt, UnaryOp};
@@ -45,7 +44,7 @@ pub fn word_at(b: &[u8], i: usize) -> u32
 // ---- records: a field that the kind does not use is zero, or there is no such record
 
 fn zeros(x: usize, y: usize) -> bool
-    ensures { result ≡ (eqb x 0 and eqb y 0) }
+    ensures { result ≡ (eqb x 0 && eqb y 0) }
 {
     x == 0 && y == 0
 }

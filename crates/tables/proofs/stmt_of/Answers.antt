@@ -1,6 +1,7 @@
 -- `tables::stmt_of` meets its contract, kind by kind. Assumes nothing.
 use Prim.Native.Nat.{◌≤◌}
 use lib.ListN.{get_or-eq_default}
+use lib.Dec.{eqb}
 use Rattle.rules.specs.Recipe.{stmt_of}
 use native.Mathlib.Omega.{arith}
 use Rattle.tables.proofs.Fields.{all_unused}
@@ -15,7 +16,7 @@ returns-in-0 c =
     let stmt-if = c.stmt_if in
     let stmt-if2 = c.stmt_if-in-0 in
     rw (c.in-0.is, stmt-if2.ensures, stmt-if.ensures, zeros2.ensures, zeros.ensures, wide.ensures.0)
-    (all_unused _ _ _ _ _)
+    (all_unused (eqb c.args.port 0) (eqb c.args.a 0) (eqb c.args.b 0) (eqb c.args.c 0) _)
 
 pub returns-in-1 : goal.returns-in-1
 unfolding stmt_of

@@ -1,12 +1,10 @@
 -- `tables::zeros` meets its contract. Assumes nothing.
 use borrow.Author.Tests.{eq-eqb, ne_eqb}
-use Rattle.rules.specs.Checks.{◌and◌}
+use mathlib.Core.Bool.{◌&&◌}
 use Rattle.tables.proofs.zeros.Goals as goal
 
 pub returns-then-x-eq0 : goal.returns-then-x-eq0
-unfolding ◌and◌
 returns-then-x-eq0 c = rw (eq-eqb _ _ c.if-x-eq0.true)
 
 pub returns-else-x-eq0 : goal.returns-else-x-eq0
-unfolding ◌and◌
 returns-else-x-eq0 c = rw (ne_eqb _ _ c.if-x-eq0.false)
