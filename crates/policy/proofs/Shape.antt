@@ -1,10 +1,12 @@
 -- The header's test and the entries' check, against what they promise. Assumes nothing.
-use Prim.Native.Nat.{ℕ, ◌+◌, ◌*◌, ◌<◌}
+use Prim.Native.Nat.{ℕ, ◌+◌, ◌-◌, ◌*◌, ◌<◌}
 use native.Mathlib.Nat.{add_assoc}
 use native.Mathlib.Omega.{arith}
-use mathlib.Core.Path.{◌≡◌}
+use mathlib.Core.Path.{◌≡◌, ◌∙◌}
 use mathlib.Core.Bool.{true, false}
 use mathlib.Core.List.{List}
+use lib.ListN.{length, get_or, take, drop}
+use lib.Seq.{get_or-take, get_or-drop}
 use borrow.Author.Tests.{leb-true, ltb-true, eqb-true, le-leb, eq-eqb}
 use Rattle.std.specs.Prelude.{Ok}
 use Rattle.rules.specs.Bytes.{byte}
@@ -61,3 +63,7 @@ join_below p {t} {u} f lt lu =
 pub clearance_below : (p : List ℕ) {port : ℕ} → LawfulPolicy p → port < byte p 7 → byte p (8 + byte p 6 * byte p 6 + port) < byte p 6
 clearance_below p {port} l lp =
     rw (add_assoc 8 (byte p 6 * byte p 6) port) (l.entries (byte p 6 * byte p 6 + port) (omega arith))
+
+-- an entry of the part from byte 8 on is the table's
+pub tail_entry : (p : List ℕ) (i : ℕ) → i < length p - 8 → get_or (take (length p - 8) (drop 8 p)) i 0 ≡ byte p (8 + i)
+tail_entry p i h = get_or-take (length p - 8) (drop 8 p) i 0 h ∙ get_or-drop 8 p i 0

@@ -1,12 +1,12 @@
 // Policies: the check of a table of tags, what an accepted one answers, and the house policy.
 #![tactic(auto)]
 
-ghost use Rattle.std.specs.Prelude.{◌≡◌, ◌+◌, ◌*◌, ◌<◌, ◌≤◌, get_or};
+ghost use Rattle.std.specs.Prelude.{◌≡◌, ◌+◌, ◌*◌, ◌<◌, ◌≤◌};
 ghost use Rattle.rules.specs.Bytes.{byte};
 ghost use Rattle.rules.specs.Checks.{up_to};
-ghost use Rattle.rules.specs.Policy.{policy_of, policy_header_ok, check_entry, laws_ok, check_policy, house_policy};
+ghost use Rattle.rules.specs.Policy.{policy_of, policy_header_ok, check_entry, laws_ok, check_policy};
 ghost use Rattle.rules.specs.Accepted.{LawfulPolicy};
-ghost use Rattle.rules.specs.Judged.{house_asked};
+ghost use Rattle.rules.specs.Judged.{house_fits, house_asked};
 ghost use Rattle.policy.specs.Shape.{Headed, Filled};
 ghost use Rattle.policy.specs.Laws.{pair_laws, associates};
 
@@ -23,13 +23,12 @@ fn spot(n: usize, t: usize, u: usize) -> usize
 }
 
 // Asks for no law, so that the check of the laws can use it.
+#[tactic(auto, using(crate::proofs::Shape::join_below))]
 fn entry(p: &[u8], t: u8, u: u8) -> u8
     requires { (Filled p.now) × (t < byte p.now 6) × (u < byte p.now 6) }
     ensures { (result ≡ (policy_of p.now).join t u) × (result < byte p.now 6) }
 {
-    let n = tables::wide(p[6]);
-    let i = spot(n, tables::wide(t), tables::wide(u));
-    p[i]
+    p[spot(usize::from(p[6]), usize::from(t), usize::from(u))]
 }
 
 // Where the clearances begin.
@@ -49,77 +48,57 @@ pub fn join(p: &[u8], a: u8, b: u8) -> u8
     entry(p, a, b)
 }
 
+#[tactic(auto, using(crate::proofs::Shape::clearance_below))]
 pub fn clearance(p: &[u8], port: u8) -> u8
     requires { (LawfulPolicy p.now) × (port < byte p.now 7) }
     ensures { (result ≡ (policy_of p.now).clearance port) × (result < byte p.now 6) }
 {
-    let from = ports_from(tables::wide(p[6]));
-    p[from + tables::wide(port)]
+    p[ports_from(usize::from(p[6])) + usize::from(port)]
 }
 
 // ---- the check
 
 // Bytes are read only where the header is there; the length comes last, since it is made of the counts.
-#[tactic(auto, using(crate::proofs::Shape::many_tags))]
+#[tactic(auto, using(crate::proofs::Shape::many_tags), unfolding(rules::specs::Policy::policy_header_ok))]
 fn header_ok(p: &[u8]) -> bool
     ensures { result ≡ policy_header_ok p.now }
 {
     if p.len() < 8 {
         return false;
     }
-    if p[0] != 0x52 {
-        return false;
-    }
-    if p[1] != 0x4A {
-        return false;
-    }
-    if p[2] != 0x50 {
-        return false;
-    }
-    if tables::half_at(p, 3) != 1 {
-        return false;
-    }
-    if p[5] != 0 {
-        return false;
-    }
-    let n = tables::wide(p[6]);
-    let ports = tables::wide(p[7]);
-    if n < 1 {
-        return false;
-    }
-    if 16 < n {
-        return false;
-    }
-    if 16 < ports {
-        return false;
-    }
-    if p.len() != ports_from(n) + ports {
-        return false;
-    }
-    true
+    let n = usize::from(p[6]);
+    let ports = usize::from(p[7]);
+    p.starts_with(b"RJP")
+        && tables::half_at(p, 3) == 1
+        && p[5] == 0
+        && 1 <= n
+        && n <= 16
+        && ports <= 16
+        && p.len() == ports_from(n) + ports
 }
 
 // Joins and clearances alike, upwards: the first that is no tag is the one reported.
+#[tactic(auto, using(rules::proofs::Checks::up_none, rules::proofs::Checks::up_more, rules::proofs::Checks::up_stops, rules::proofs::Checks::passes, rules::proofs::Checks::fails))]
 fn check_entries(p: &[u8]) -> Checked
     requires { Headed p.now }
     ensures { result ≡ up_to (byte p.now 6 * byte p.now 6 + byte p.now 7) (check_entry p.now) }
 {
     let n = p[6];
-    for i in 0..p.len() - 8 {
-        let at = 8 + i;
-        if n <= p[at] {
-            return Checked::Failed(Refusal::PolicyEntry(at));
+    for (i, &x) in p[8..].iter().enumerate() {
+        if n <= x {
+            return Err(Refusal::PolicyEntry(8 + i));
         }
     }
-    Checked::Passed
+    Ok(())
 }
 
 // Grouped so that no two ways meet before the answer, and each keeps what it has tested.
+#[tactic(auto, unfolding(crate::specs::Laws::pair_laws))]
 fn pair_ok(p: &[u8], t: u8, u: u8) -> bool
     requires { (Filled p.now) × (t < byte p.now 6) × (u < byte p.now 6) }
     ensures { result ≡ pair_laws (policy_of p.now) t u }
 {
-    entry(p, t, u) == entry(p, u, t) && (entry(p, t, t) == t && entry(p, 0, t) == t)
+    entry(p, t, u) == entry(p, u, t) && entry(p, t, t) == t && entry(p, 0, t) == t
 }
 
 fn associates(p: &[u8], t: u8, u: u8, w: u8) -> bool
@@ -133,6 +112,7 @@ fn associates(p: &[u8], t: u8, u: u8, w: u8) -> bool
 
 // Three loops over the tags, left from the innermost at the first broken law. The laws that need no third tag are tested
 // outside it, where once for each pair is enough.
+#[tactic(auto, using(crate::proofs::Laws::law_holds, crate::proofs::Laws::no_pair, crate::proofs::Laws::no_triple, crate::proofs::Laws::laws_hold, crate::proofs::Laws::law_broken))]
 fn laws_ok(p: &[u8]) -> bool
     requires { Filled p.now }
     ensures { result ≡ laws_ok (policy_of p.now) }
@@ -157,20 +137,18 @@ fn laws_ok(p: &[u8]) -> bool
 }
 
 // The first refusal in the order 23, 24, 25.
+#[tactic(auto, using(crate::proofs::Shape::headed, crate::proofs::Shape::filled, rules::proofs::Checks::next, rules::proofs::Checks::stops, rules::proofs::Checks::passes, rules::proofs::Checks::fails), unfolding(rules::specs::Policy::check_policy))]
 pub fn check_policy(p: &[u8]) -> Checked
     ensures { result ≡ check_policy p.now }
 {
     if !header_ok(p) {
-        return Checked::Failed(Refusal::PolicyHeader);
+        return Err(Refusal::PolicyHeader);
     }
-    let found = check_entries(p);
-    if let Checked::Failed(x) = found {
-        return Checked::Failed(x);
-    }
+    check_entries(p)?;
     if !laws_ok(p) {
-        return Checked::Failed(Refusal::PolicyLaw);
+        return Err(Refusal::PolicyLaw);
     }
-    Checked::Passed
+    Ok(())
 }
 
 // ---- the house policy
@@ -199,30 +177,16 @@ const HOUSE_JOINS: [u8; 256] = *b"\
 // Verdict and alarm.
 const HOUSE_CLEARANCES: [u8; 2] = [0, 15];
 
-// Byte k of the house policy, so that one loop writes it.
-fn house_byte(k: usize) -> u8
-    requires { k < 266 }
-    ensures { result ≡ get_or house_policy k 0 }
-{
-    if k < 8 {
-        return HOUSE_HEADER[k];
-    }
-    if k < 264 {
-        return HOUSE_JOINS[k - 8];
-    }
-    HOUSE_CLEARANCES[k - 264]
-}
-
-// 29 where the buffer is too short, with nothing written.
-#[tactic(auto, using(crate::proofs::House::no_room))]
-pub fn house_policy(out: &mut [u8]) -> u32
-    ensures { (result ≡ (house_asked out.old).number) × (out.new ≡ (house_asked out.old).buffer) }
+// Refused where the buffer is too short, with nothing written.
+#[tactic(auto, using(crate::proofs::House::no_room, crate::proofs::House::room), unfolding(rules::specs::Checks::require))]
+pub fn house_policy(out: &mut [u8]) -> Checked
+    ensures { (result ≡ house_fits out.old) × (out.new ≡ (house_asked out.old).buffer) }
 {
     if out.len() < 266 {
-        return 29;
+        return Err(Refusal::HouseRoom);
     }
-    for k in 0..266 {
-        out[k] = house_byte(k);
-    }
-    0
+    out[..8].copy_from_slice(&HOUSE_HEADER);
+    out[8..264].copy_from_slice(&HOUSE_JOINS);
+    out[264..266].copy_from_slice(&HOUSE_CLEARANCES);
+    Ok(())
 }

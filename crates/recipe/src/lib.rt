@@ -35,7 +35,11 @@ fn counts_ok(r: &[u8]) -> bool
     ensures { result ≡ counts_ok (recipe_of r.now) }
 {
     let stmts = half_at(r, 8);
-    half_at(r, 6) <= 1024 && 1 <= stmts && stmts <= 512 && half_at(r, 10) <= 64 && half_at(r, 12) <= 1024
+    half_at(r, 6) <= 1024
+        && 1 <= stmts
+        && stmts <= 512
+        && half_at(r, 10) <= 64
+        && half_at(r, 12) <= 1024
 }
 
 #[tactic(auto, using(crate::proofs::Order::too_short, crate::proofs::Order::no_mark, crate::proofs::Order::no_version, crate::proofs::Order::no_zeros, crate::proofs::Order::no_counts, crate::proofs::Order::no_length, crate::proofs::Order::header))]

@@ -3,7 +3,7 @@
 use Rattle.std.specs.Prelude.{ℕ, zero, suc, ◌*◌, Bool, true, false, List, ◌++◌, leb, length, drop, Ok, Err}
 use Rattle.rules.specs.declared.Refusal.{Refusal}
 use Rattle.rules.specs.declared.Refusal.TheVariants.{HouseRoom, ReportRoom}
-use Rattle.rules.specs.Checks.{Checked, ◌and_then◌}
+use Rattle.rules.specs.Checks.{Checked, require, ◌and_then◌}
 use Rattle.rules.specs.declared.End.{End}
 use Rattle.rules.specs.declared.End.TheVariants.{Refused}
 use Rattle.rules.specs.declared.Outcome.{Outcome}
@@ -92,6 +92,10 @@ hosted r p m q report budget = with_report (leb 12 (length report)) m q report (
 pub record Asked : Type 0 where
   pub number : ℕ
   pub buffer : List ℕ
+
+-- 29 where the buffer is too short
+abbrev pub house_fits : (buffer : List ℕ) → Checked
+house_fits b = require (leb 266 (length b)) HouseRoom
 
 unfoldable pub housed : Bool → (buffer : List ℕ) → Asked
 housed true b = record { number = 0; buffer = house_policy ++ drop 266 b }

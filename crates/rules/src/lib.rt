@@ -1,14 +1,14 @@
 // The data of document 01, which the definitions in specs/ and the code both speak of. No code.
 #![tactic(auto)]
 
-#[derive(Clone, Copy, Debug, PartialEq, Eq)]
+#[derive(Clone, Copy)]
 pub enum UnaryOp {
     Negate,
     Not,
     Absolute,
 }
 
-#[derive(Clone, Copy, Debug, PartialEq, Eq)]
+#[derive(Clone, Copy)]
 pub enum BinaryOp {
     Add,
     Sub,
@@ -22,7 +22,7 @@ pub enum BinaryOp {
 }
 
 // An expression record: operands by their numbers. BadExpr: no expression stands there.
-#[derive(Clone, Copy, Debug, PartialEq, Eq)]
+#[derive(Clone, Copy)]
 pub enum Expr {
     Constant(u32),
     Variable(usize),
@@ -33,7 +33,7 @@ pub enum Expr {
 }
 
 // A statement record: expressions and statements by their numbers. BadStmt: no statement stands there.
-#[derive(Clone, Copy, Debug, PartialEq, Eq)]
+#[derive(Clone, Copy)]
 pub enum Stmt {
     Skip,
     Assign(usize, usize),
@@ -46,14 +46,14 @@ pub enum Stmt {
 }
 
 // A value and its tag: a place of the memory, and what an expression gives.
-#[derive(Clone, Copy, Debug, PartialEq, Eq)]
+#[derive(Clone, Copy)]
 pub struct Place {
     pub value: u32,
     pub tag: u8,
 }
 
 // Why a run ends early.
-#[derive(Clone, Copy, Debug, PartialEq, Eq)]
+#[derive(Clone, Copy)]
 pub enum Stop {
     AssignTag,
     StoreTag,
@@ -64,7 +64,7 @@ pub enum Stop {
     Frames,
 }
 
-#[derive(Clone, Copy, Debug, PartialEq, Eq)]
+#[derive(Clone, Copy)]
 pub enum Frame {
     Next(usize),
     Join(u8),
@@ -73,7 +73,7 @@ pub enum Frame {
 
 // What beginning a statement asks of the state: nothing; a frame, with the statement to begin and the branch tag after it;
 // a place written; a record; the end of the run.
-#[derive(Clone, Copy, Debug, PartialEq, Eq)]
+#[derive(Clone, Copy)]
 pub enum Act {
     Passes,
     Pushes(Frame, usize, u8),
@@ -83,7 +83,7 @@ pub enum Act {
 }
 
 // What a repeated test asks: the body again, with the branch tag; leaving the loop; the end of the run.
-#[derive(Clone, Copy, Debug, PartialEq, Eq)]
+#[derive(Clone, Copy)]
 pub enum Again {
     Repeats(usize, u8),
     Leaves,
@@ -91,7 +91,7 @@ pub enum Again {
 }
 
 // Why a recipe, a policy, a memory or a buffer is refused, with the place where there is one.
-#[derive(Clone, Copy, Debug, PartialEq, Eq)]
+#[derive(Clone, Copy)]
 pub enum Refusal {
     RecipeLength,
     RecipeMark,
@@ -114,7 +114,7 @@ pub enum Refusal {
 pub type Checked = Result<(), Refusal>;
 
 // How a run ends; early with the statement carried out.
-#[derive(Clone, Copy, Debug, PartialEq, Eq)]
+#[derive(Clone, Copy)]
 pub enum End {
     Done,
     Budget,
@@ -123,7 +123,7 @@ pub enum End {
 }
 
 // The result of a run: its end, and the two counts.
-#[derive(Clone, Copy, Debug, PartialEq, Eq)]
+#[derive(Clone, Copy)]
 pub struct Outcome {
     pub end: End,
     pub steps: u32,
