@@ -1,3 +1,3 @@
-pub mod Magnitude
+pub mod Exact
 pub mod Bounds
 pub mod Determined
