@@ -1,16 +1,14 @@
 -- Every operator's result is a word. Assumes nothing.
-use Rattle.std.proofs.Common.{ℕ, ◌^◌, ◌<◌, Bool, true, false, ℤ, pos, negsuc, arith}
+use Rattle.std.proofs.Common.{ℕ, ◌^◌, ◌<◌, Bool, ℤ, arith}
 use Rattle.words.specs.Word.{word, truth, negated, denied, absolute, sum, difference, product, quotient, remainder, less, less_equal, equal, not_equal}
 
 pub word_below : (z : ℤ) → word z < 2 ^ 32
 unfolding word
-word_below (pos n) = omega arith
-word_below (negsuc n) = omega arith
+word_below z = grind arith
 
 pub truth_below : (b : Bool) → truth b < 2 ^ 32
 unfolding truth
-truth_below true = omega arith
-truth_below false = omega arith
+truth_below b = grind arith
 
 pub negated_below : (a : ℕ) → negated a < 2 ^ 32
 unfolding negated

@@ -19,7 +19,7 @@ word_wraps : (z : ℤ) → word z ≡ of_z w32 (int_wrap w32 z)
 unfolding word int_wrap
 word_wraps z = grind (arith, ints)
 
--- ---- a quotient and a remainder are no larger than the left side, so that little is wrapped
+-- ---- a quotient or a remainder is no larger than its left side, so no more than 2 ^ 31, and nothing of it is lost
 
 word_is : (z : ℤ) → nat_abs z ≤ 2 ^ 31 → word z ≡ of_z w32 z
 unfolding word
@@ -32,6 +32,10 @@ remainder_small : (x y : ℤ) → nat_abs (rem_z x y) ≤ nat_abs x
 remainder_small x y = grind (arith, ints, mod-le)
 
 -- ---- the operators
+
+pub denied_is : (a : ℕ) → denied a ≡ from_bool (eqb a 0)
+unfolding denied
+denied_is a = truth_is _
 
 module _ {a : ℕ} (h : a < 2 ^ 32) where
   pub negated_is : negated a ≡ (2 ^ 32 - a) % 2 ^ 32
@@ -64,10 +68,6 @@ module _ {a b : ℕ} (h : a < 2 ^ 32) (k : b < 2 ^ 32) where
   remainder_is = grind (arith, ints, signed, word_is, remainder_small)
 
 module _ (a b : ℕ) where
-  pub denied_is : denied a ≡ from_bool (eqb a 0)
-  unfolding denied
-  denied_is = truth_is _
-
   pub equal_is : equal a b ≡ from_bool (eqb a b)
   unfolding equal
   equal_is = truth_is _
@@ -84,4 +84,5 @@ module _ (a b : ℕ) where
   unfolding less_equal
   less_equal_is = grind (arith, signed, truth_is)
 
+-- what the functions' proofs take
 pub ruleset exact = (to_z-of_z, negated_is, denied_is, absolute_is, sum_is, difference_is, product_is, quotient_is, remainder_is, less_is, less_equal_is, equal_is, not_equal_is)

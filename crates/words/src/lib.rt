@@ -41,6 +41,7 @@ pub fn mul(a: u32, b: u32) -> u32
     a.wrapping_mul(b)
 }
 
+// The lowest number over -1, whose quotient does not fit, stays as it is.
 pub fn div(a: u32, b: u32) -> u32
     requires { 0 < b }
     ensures { result ≡ quotient a b }
