@@ -1,9 +1,9 @@
 // Little-endian numbers and the records of the recipe table, read from bytes.
 #![tactic(auto)]
 
-ghost use Rattle.std.specs.Prelude.{◌≡◌, ◌&&◌, ◌+◌, ◌*◌, ◌<◌, eqb, length};
+ghost use Rattle.std.specs.Prelude.{◌≡◌, ◌+◌, ◌*◌, ◌<◌, length};
 ghost use Rattle.rules.specs.Bytes.{half, whole};
-ghost use Rattle.rules.specs.Recipe.{expr_if, stmt_if, unary_expr, binary_expr, expr_of, stmt_of, recipe_of};
+ghost use Rattle.rules.specs.Recipe.{unary_expr, binary_expr, expr_of, stmt_of, recipe_of};
 
 use rules::{BinaryOp, Expr, Stmt, UnaryOp};
 
@@ -11,46 +11,26 @@ use rules::{BinaryOp, Expr, Stmt, UnaryOp};
 pub fn wide(x: u8) -> usize
     ensures { (result ≡ x) × (result < 256) }
 {
-    x as usize
-}
-
-fn wide32(x: u8) -> u32
-    ensures { (result ≡ x) × (result < 256) }
-{
-    x as u32
+    usize::from(x)
 }
 
 pub fn half_at(b: &[u8], i: usize) -> usize
     requires { i + 1 < length b.now }
     ensures { (result ≡ half b.now i) × (result < 65536) }
 {
-    wide(b[i]) + 256 * wide(b[i + 1])
-}
-
-fn low_at(b: &[u8], i: usize) -> u32
-    requires { i + 1 < length b.now }
-    ensures { (result ≡ half b.now i) × (result < 65536) }
-{
-    wide32(b[i]) + 256 * wide32(b[i + 1])
+    usize::from(u16::from_le_bytes([b[i], b[i + 1]]))
 }
 
 pub fn word_at(b: &[u8], i: usize) -> u32
     requires { i + 3 < length b.now }
     ensures { result ≡ whole b.now i }
 {
-    low_at(b, i) + 65536 * low_at(b, i + 2)
+    u32::from_le_bytes([b[i], b[i + 1], b[i + 2], b[i + 3]])
 }
 
-// ---- records: a field that the kind does not use is zero, or there is no such record
+// ---- expressions: a field that the kind does not use is zero, or there is no such record
 
-fn zeros(x: usize, y: usize) -> bool
-    ensures { result ≡ (eqb x 0 && eqb y 0) }
-{
-    x == 0 && y == 0
-}
-
-// ---- expressions
-
+#[tactic(auto, unfolding(rules::specs::Recipe::unary_expr))]
 fn unary_expr(operator: u8, a: usize) -> Expr
     ensures { result ≡ unary_expr operator a }
 {
@@ -62,6 +42,7 @@ fn unary_expr(operator: u8, a: usize) -> Expr
     }
 }
 
+#[tactic(auto, unfolding(rules::specs::Recipe::binary_expr))]
 fn binary_expr(operator: u8, a: usize, b: usize) -> Expr
     ensures { result ≡ binary_expr operator a b }
 {
@@ -79,30 +60,21 @@ fn binary_expr(operator: u8, a: usize, b: usize) -> Expr
     }
 }
 
-fn expr_if(unused: bool, x: Expr) -> Expr
-    ensures { result ≡ expr_if unused x }
-{
-    if unused {
-        return x;
-    }
-    Expr::BadExpr
-}
-
+#[tactic(auto, using(crate::proofs::Fields::tests, crate::proofs::Fields::kinds), unfolding(rules::specs::Recipe::expr_if))]
 fn expr_of(kind: u8, operator: u8, a: usize, b: u32) -> Expr
     ensures { result ≡ expr_of kind operator a b }
 {
-    let right = b as usize;
-    let only_a = zeros(wide(operator), right);
-    match kind {
-        1 => expr_if(zeros(wide(operator), a), Expr::Constant(b)),
-        2 => expr_if(only_a, Expr::Variable(a)),
-        3 => expr_if(only_a, Expr::Cell(a)),
-        4 => expr_if(b == 0, unary_expr(operator, a)),
-        5 => binary_expr(operator, a, right),
+    match (kind, operator, a, b) {
+        (1, 0, 0, b) => Expr::Constant(b),
+        (2, 0, a, 0) => Expr::Variable(a),
+        (3, 0, a, 0) => Expr::Cell(a),
+        (4, operator, a, 0) => unary_expr(operator, a),
+        (5, operator, a, b) => binary_expr(operator, a, b as usize),
         _ => Expr::BadExpr,
     }
 }
 
+#[tactic(auto, unfolding(rules::specs::Recipe::expr))]
 pub fn expr_at(r: &[u8], e: usize) -> Expr
     requires { 16 + 8 * e + 7 < length r.now }
     ensures { result ≡ (recipe_of r.now).expr_at e }
@@ -113,33 +85,25 @@ pub fn expr_at(r: &[u8], e: usize) -> Expr
     expr_of(r[o], r[o + 1], a, b)
 }
 
-// ---- statements
+// ---- statements, likewise
 
-fn stmt_if(unused: bool, x: Stmt) -> Stmt
-    ensures { result ≡ stmt_if unused x }
-{
-    if unused {
-        return x;
-    }
-    Stmt::BadStmt
-}
-
+#[tactic(auto, using(crate::proofs::Fields::tests), unfolding(rules::specs::Recipe::stmt_of, rules::specs::Recipe::stmt_if))]
 fn stmt_of(kind: u8, port: u8, a: usize, b: usize, c: usize) -> Stmt
     ensures { result ≡ stmt_of kind port a b c }
 {
-    let only_ab = zeros(wide(port), c);
-    match kind {
-        0 => stmt_if(only_ab, stmt_if(zeros(a, b), Stmt::Skip)),
-        1 => stmt_if(only_ab, Stmt::Assign(a, b)),
-        2 => stmt_if(only_ab, Stmt::Store(a, b)),
-        3 => stmt_if(only_ab, Stmt::Then(a, b)),
-        4 => stmt_if(port == 0, Stmt::If(a, b, c)),
-        5 => stmt_if(only_ab, Stmt::While(a, b)),
-        6 => stmt_if(zeros(b, c), Stmt::Emit(port, a)),
+    match (kind, port, a, b, c) {
+        (0, 0, 0, 0, 0) => Stmt::Skip,
+        (1, 0, a, b, 0) => Stmt::Assign(a, b),
+        (2, 0, a, b, 0) => Stmt::Store(a, b),
+        (3, 0, a, b, 0) => Stmt::Then(a, b),
+        (4, 0, a, b, c) => Stmt::If(a, b, c),
+        (5, 0, a, b, 0) => Stmt::While(a, b),
+        (6, port, a, 0, 0) => Stmt::Emit(port, a),
         _ => Stmt::BadStmt,
     }
 }
 
+#[tactic(auto, unfolding(rules::specs::Recipe::stmt))]
 pub fn stmt_at(r: &[u8], s: usize) -> Stmt
     requires { 16 + 8 * half r.now 6 + 8 * s + 7 < length r.now }
     ensures { result ≡ (recipe_of r.now).stmt_at s }
