@@ -2,5 +2,4 @@ pub mod Frames
 pub mod Turns
 pub mod Arms
 pub mod Loaded
-pub mod InOrder
 pub mod Determined

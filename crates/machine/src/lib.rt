@@ -265,21 +265,13 @@ fn refuse(x: Refusal) -> Outcome
 }
 
 // Everything is checked, in document 01's order, before anything is changed.
+#[tactic(auto, using(rules::proofs::Checks::next, rules::proofs::Checks::stops), unfolding(rules::specs::Judged::checks))]
 pub fn check(r: &[u8], p: &[u8], m: &[u8]) -> Checked
     ensures { result ≡ checks r.now p.now m.now }
 {
-    let c = recipe::check_recipe(r);
-    if let Checked::Failed(x) = c {
-        return Checked::Failed(x);
-    }
-    let c = policy::check_policy(p);
-    if let Checked::Failed(x) = c {
-        return Checked::Failed(x);
-    }
-    let c = recipe::check_ports(r, p[7]);
-    if let Checked::Failed(x) = c {
-        return Checked::Failed(x);
-    }
+    recipe::check_recipe(r)?;
+    policy::check_policy(p)?;
+    recipe::check_ports(r, p[7])?;
     memory::check_memory(m, tables::half_at(r, 10) + tables::half_at(r, 12), p[6])
 }
 
@@ -287,9 +279,8 @@ pub fn check(r: &[u8], p: &[u8], m: &[u8]) -> Checked
 pub fn judge(r: &[u8], p: &[u8], m: &mut [u8], q: &mut [u8], budget: u32) -> Outcome
     ensures { LeftAs result m.new q.new (judged r.now p.now m.old q.old budget) }
 {
-    let c = check(r, p, m);
-    match c {
-        Checked::Failed(x) => refuse(x),
-        Checked::Passed => run_accepted(r, p, m, q, budget),
+    match check(r, p, m) {
+        Ok(()) => run_accepted(r, p, m, q, budget),
+        Err(x) => refuse(x),
     }
 }

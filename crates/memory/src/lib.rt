@@ -69,18 +69,13 @@ pub fn put_place(m: &mut [u8], i: usize, q: Place)
 pub fn check_memory(m: &[u8], count: usize, tags: u8) -> Checked
     ensures { (R : Recipe) → R.vars + R.cells ≡ count → result ≡ check_memory R tags m.now }
 {
-    if m.len() / 5 != count {
-        return Checked::Failed(Refusal::MemoryLength);
+    if m.len() / 5 != count || m.len() % 5 != 0 {
+        return Err(Refusal::MemoryLength);
     }
-    if m.len() % 5 != 0 {
-        return Checked::Failed(Refusal::MemoryLength);
-    }
-    let mut i = 0;
-    while i < count {
+    for i in 0..count {
         if tags <= m[5 * i + 4] {
-            return Checked::Failed(Refusal::MemoryTag(i));
+            return Err(Refusal::MemoryTag(i));
         }
-        i += 1;
     }
-    Checked::Passed
+    Ok(())
 }

@@ -4,13 +4,18 @@ use native.Mathlib.Omega.{arith}
 use mathlib.Core.Path.{◌≡◌, refl, ap, ◌∙◌}
 use mathlib.Core.Logic.{⊎_elim}
 use mathlib.Core.List.{List, ◌++◌}
+use mathlib.Core.Bool.{Bool, true, false}
+use lib.Dec.{leb}
 use lib.ListN.{length, drop}
+use Rattle.std.specs.Prelude.{Ok, Err}
+use Rattle.rules.specs.declared.Refusal.TheVariants.{HouseRoom}
+use Rattle.rules.specs.Checks.{Checked, require}
 use borrow.Author.Tests.{le-leb, lt-leb}
 use Rattle.rules.specs.declared.Outcome.{Outcome}
 use Rattle.rules.specs.declared.End.{End}
 use Rattle.rules.specs.Bytes.{Bytes}
 use Rattle.rules.specs.Ends.{refusal_number, end_number, end_place}
-use Rattle.rules.specs.Judged.{judged, host_budget, report_bytes, reported, with_report, hosted}
+use Rattle.rules.specs.Judged.{judged, host_budget, report_bytes, with_report, hosted, house_fits, housed, house_asked}
 use Rattle.rules.proofs.Numbers.{Given, judged_given}
 use Rattle.machine.specs.Turns.{LeftAs}
 use Rattle.vraduceni.specs.Hosts.{Finds}
@@ -54,3 +59,17 @@ module _ (r p m q report : List ℕ) (budget : ℕ) where
           room_is = l.room_is;
           report_is = f ∙ ap (λ (x : Outcome). report_bytes x ++ drop 12 report) l.outcome_is;
         })
+
+-- ---- the house policy
+
+abbrev pub number_of : Checked → ℕ
+number_of (Ok u) = 0
+number_of (Err x) = refusal_number x
+
+pub house_number : {c : Checked} (b : List ℕ) → c ≡ house_fits b → number_of c ≡ (house_asked b).number
+unfolding require housed house_asked
+house_number b e = ap number_of e ∙ by_room (leb 266 (length b))
+  where
+    by_room : (t : Bool) → number_of (require t HouseRoom) ≡ (housed t b).number
+    by_room true = refl
+    by_room false = refl

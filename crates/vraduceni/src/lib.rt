@@ -6,7 +6,7 @@ ghost use Rattle.rules.specs.Ends.{end_number, end_place};
 ghost use Rattle.rules.specs.Judged.{host_budget, report_bytes, hosted, house_asked};
 ghost use Rattle.vraduceni.specs.Hosts.{Finds};
 
-use rules::Outcome;
+use rules::{End, Outcome, Refusal};
 
 // ---- the entries
 
@@ -22,9 +22,8 @@ fn put_report(report: &mut [u8], o: Outcome)
     requires { (12 ≤ length report.old) × (end_number o.end < 65536) × (end_place o.end < 65536) }
     ensures { report.new ≡ report_bytes o ++ drop 12 report.old }
 {
-    let end = o.end;
-    memory::put_half(report, 0, ends::end_number(end) as usize);
-    memory::put_half(report, 2, ends::end_place(end));
+    memory::put_half(report, 0, ends::end_number(o.end) as usize);
+    memory::put_half(report, 2, ends::end_place(o.end));
     memory::put_word(report, 4, o.steps);
     memory::put_word(report, 8, o.records);
 }
@@ -40,16 +39,18 @@ pub fn vraduceni_judge(
     ensures { Finds result memory.new records.new report.new (hosted recipe.now policy.now memory.old records.old report.old budget) }
 {
     if report.len() < 12 {
-        return 30;
+        return ends::end_number(End::Refused(Refusal::ReportRoom));
     }
     let o = machine::judge(recipe, policy, memory, records, host_budget(budget));
-    let end = o.end;
     put_report(report, o);
-    ends::end_number(end)
+    ends::end_number(o.end)
 }
 
 pub fn vraduceni_house_policy(out: &mut [u8]) -> u32
     ensures { (result ≡ (house_asked out.old).number) × (out.new ≡ (house_asked out.old).buffer) }
 {
-    policy::house_policy(out)
+    match policy::house_policy(out) {
+        Ok(()) => 0,
+        Err(x) => ends::end_number(End::Refused(x)),
+    }
 }

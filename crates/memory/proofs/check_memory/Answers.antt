@@ -7,29 +7,11 @@ use Rattle.memory.proofs.check_memory.Goals as goal
 pub returns-then-m-count : goal.returns-then-m-count
 returns-then-m-count c R e = wrong_length _ _ _ R e (λ q. omega arith)
 
-pub returns-then-m-ne0 : goal.returns-then-m-ne0
-returns-then-m-ne0 c R e = wrong_length _ _ _ R e (λ q. omega arith)
-
 pub loop-i-init : goal.loop-i-init
 loop-i-init c = (omega arith, up_none _)
 
-pub overflow_mul-i : goal.overflow_mul-i
-overflow_mul-i c = omega arith
-
-pub overflow_add-i : goal.overflow_add-i
-overflow_add-i c = omega arith
-
-pub bounds-m-i : goal.bounds-m-i
-bounds-m-i c = omega arith
-
 pub returns-then-tags-m : goal.returns-then-tags-m
 returns-then-tags-m c R e = wrong_tag _ _ _ R e (omega arith) (omega arith) c.loop-i.invariant.1 (omega arith)
-
-pub overflow_add-i-in-loop-i : goal.overflow_add-i-in-loop-i
-overflow_add-i-in-loop-i c = omega arith
-
-pub loop-i-smaller : goal.loop-i-smaller
-loop-i-smaller c = omega arith
 
 pub loop-i-preserved : goal.loop-i-preserved
 loop-i-preserved c = (omega arith, up_more _ _ c.loop-i.invariant.1 (tag_passes _ _ _ (omega arith) (omega arith)))

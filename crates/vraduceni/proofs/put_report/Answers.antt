@@ -3,7 +3,6 @@ use native.Mathlib.Omega.{arith}
 use Rattle.rules.specs.Ends.{end_number, end_place}
 use Rattle.rules.specs.Judged.{report_bytes}
 use Rattle.memory.proofs.Report.{report_written}
-use borrow.Author.Rules.{rules}
 use Rattle.vraduceni.proofs.put_report.Goals as goal
 
 pub returns : goal.returns
