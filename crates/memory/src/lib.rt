@@ -11,26 +11,25 @@ use rules::{Checked, Place, Refusal};
 
 // ---- numbers
 
+#[tactic(auto, using(crate::proofs::Stored::half_part))]
 pub fn put_half(b: &mut [u8], o: usize, h: usize)
     requires { (o + 1 < length b.old) × (h < 65536) }
     ensures { b.new ≡ stored_half b.old o h }
 {
-    b[o] = (h % 256) as u8;
-    b[o + 1] = (h / 256) as u8;
+    b[o..o + 2].copy_from_slice(&(h as u16).to_le_bytes());
 }
 
+#[tactic(auto, using(crate::proofs::Stored::word_part))]
 pub fn put_word(b: &mut [u8], o: usize, w: u32)
     requires { o + 3 < length b.old }
     ensures { b.new ≡ stored b.old o w }
 {
-    b[o] = (w % 256) as u8;
-    b[o + 1] = (w / 256 % 256) as u8;
-    b[o + 2] = (w / 65536 % 256) as u8;
-    b[o + 3] = (w / 16777216) as u8;
+    b[o..o + 4].copy_from_slice(&w.to_le_bytes());
 }
 
 // ---- records
 
+#[tactic(auto, unfolding(crate::specs::Layout::recorded))]
 pub fn put_record(b: &mut [u8], o: usize, port: u8, w: u32)
     requires { o + 4 < length b.old }
     ensures { b.new ≡ recorded b.old o port w }
@@ -46,14 +45,14 @@ pub fn place_at(m: &[u8], i: usize) -> Place
     ensures { result ≡ whole m.now (5 * i) # byte m.now (5 * i + 4) }
 {
     let o = 5 * i;
-    let w = tables::word_at(m, o);
     Place {
-        value: w,
+        value: tables::word_at(m, o),
         tag: m[o + 4],
     }
 }
 
 // The bound of the value is for the caller: a place is read back as it was only below it.
+#[tactic(auto, unfolding(crate::specs::Layout::placed, rules::specs::Memory::value_of, rules::specs::Memory::tag_of))]
 pub fn put_place(m: &mut [u8], i: usize, q: Place)
     requires { 5 * i + 4 < length m.old }
     ensures { (m.new ≡ placed m.old i q) × (q.value < 2 ^ 32) }
