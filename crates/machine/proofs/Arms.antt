@@ -21,7 +21,7 @@ use Rattle.rules.specs.Memory.{Memory, value_of, tag_of}
 use Rattle.layout.specs.Tables.{join_in}
 use Rattle.layout.specs.Places.{Ready}
 use Rattle.layout.specs.Answers.{answer_of, worth_of}
-use Rattle.steps.specs.Asks.{Done}
+use Rattle.steps.specs.Asks.{Written, Done}
 use Rattle.steps.proofs.Asked.{test_true, test_false, join_is, join_good, clearance_is, clearance_good, lies_under, lies_off}
 
 pub worth_tag : (x : ℕ) {n : ℕ} → x / 4294967296 < n → tag_of (worth_of x) < n
@@ -37,7 +37,7 @@ unfolding value_of tag_of
 worth_answer x = omega arith
 
 module _ (P : Policy) (R : Recipe) (m : Memory) (b : ℕ) {o : Valued} where
-  pub did_as : (i h : ℕ) (u v : List ℕ) (q : Place) → o ≡ Ok q → Done (assigns P R m b i (Ok q)) h u v → Done (assigns P R m b i o) h u v
+  pub did_as : (i : ℕ) (h : Written) (u v : List ℕ) (q : Place) → o ≡ Ok q → Done (assigns P R m b i (Ok q)) h u v → Done (assigns P R m b i o) h u v
   did_as i h u v q e d = rw e d
 
   module _ (v : ℕ) {w : ℕ} (e : o ≡ Ok (worth_of v)) (q : w ≡ v % 4294967296) where

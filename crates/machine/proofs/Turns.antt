@@ -12,7 +12,7 @@ use Rattle.rules.specs.declared.Stop.{Stop}
 use Rattle.rules.specs.declared.Stop.TheVariants.{EmitTag, Room, Frames}
 use Rattle.rules.specs.declared.Frame.{Frame}
 use Rattle.rules.specs.declared.Frame.TheVariants.{Next, Join, Loop}
-use Rattle.std.specs.Prelude.{Option, Some, None, Ok}
+use Rattle.std.specs.Prelude.{Option, Some, None, Ok, Err}
 use Rattle.rules.specs.declared.Act.{Act}
 use Rattle.rules.specs.declared.Act.TheVariants.{Passes, Pushes, Writes, Records, Stops}
 use Rattle.rules.specs.declared.Again.{Again}
@@ -97,15 +97,11 @@ unfolding follow
 run_spent P R room k x goes = refl
 run_spent P R room k x halts = refl
 
-not_zero : (h : Stop) → stop_number h ≡ 0 → ⊥
-unfolding stop_number
-not_zero Stop.AssignTag e = omega arith
-not_zero Stop.StoreTag e = omega arith
-not_zero EmitTag e = omega arith
-not_zero Stop.Index e = omega arith
-not_zero Stop.Divisor e = omega arith
-not_zero Room e = omega arith
-not_zero Frames e = omega arith
+no_stop : {h : asks.Written} {x : Stop} → h ≡ Err x → h ≡ Ok tt → ⊥
+no_stop e f = cc
+
+same_stop : {h : asks.Written} {x y : Stop} → h ≡ Err x → h ≡ Err y → x ≡ y
+same_stop e f = cc
 
 -- with a kind that is not the empty word's, something is left to do
 moves_now : (P : Policy) (R : Recipe) (room tag : ℕ) (m : Memory) (c : List Record) {t st : List ℕ} {d kind s : ℕ} {w : Option ℕ} {l : List Frame}
@@ -322,8 +318,8 @@ module _ {r p t u₀ q₀ u q st : List ℕ} {B left k d kind s tag : ℕ} (g : 
         no_room l = halted (rw (e, g.held.counted, lt-leb (5 * k + 5) (length q₀) l) at asked)
 
     -- a statement asked a, and steps did it
-    module _ {h : ℕ} {u' : List ℕ} where
-      pub wrote_on : (a : Act) → stepped ≡ performs R (length q₀) s tag g.frames (held_in R u) g.records a → ActOk P R a → asks.Done a h u u' → h ≡ 0
+    module _ {h : asks.Written} {u' : List ℕ} where
+      pub wrote_on : (a : Act) → stepped ≡ performs R (length q₀) s tag g.frames (held_in R u) g.records a → ActOk P R a → asks.Done a h u u' → h ≡ Ok tt
           → {kind' s' : ℕ} → kind' ≡ get_or st d 0 / 8192 → s' ≡ get_or st d 0 / 16 % 512 → Stands r p t u₀ q₀ u' q st B (left - 1) k d kind' s' tag
       unfolding value_of tag_of
       wrote_on Passes e ok did z x y = absurd did
@@ -337,15 +333,15 @@ module _ {r p t u₀ q₀ u q st : List ℕ} {B left k d kind s tag : ℕ} (g : 
           (rw did.1 (ready_write g.ready g.all_places i z l low))
           g.stack (at_top x y)
       wrote_on (Records port v) e ok did z x y = absurd did
-      wrote_on (Stops n) e ok did z x y = absurd (not_zero n (sym did.0 ∙ z))
+      wrote_on (Stops n) e ok did z x y = absurd (no_stop did.0 z)
 
-      pub refused : (a : Act) → stepped ≡ performs R (length q₀) s tag g.frames (held_in R u) g.records a → asks.Done a h u u' → (h ≡ 0 → ⊥)
-          → RunAs r p t u₀ q₀ B (outcome_of (Stopped (stop_from h) s) (B - (left - 1)) k) u' q
-      refused Passes e did n = absurd did
-      refused (Pushes f m b) e did n = absurd did
-      refused (Writes i v) e did n = absurd (n did.0)
-      refused (Records port v) e did n = absurd did
-      refused (Stops x) e did n = rw (did.0, did.1, stop_back x) (halted e)
+      pub refused : (a : Act) → stepped ≡ performs R (length q₀) s tag g.frames (held_in R u) g.records a → asks.Done a h u u' → {n : Stop} → h ≡ Err n
+          → RunAs r p t u₀ q₀ B (outcome_of (Stopped n s) (B - (left - 1)) k) u' q
+      refused Passes e did z = absurd did
+      refused (Pushes f m b) e did z = absurd did
+      refused (Writes i v) e did z = absurd (no_stop z did.0)
+      refused (Records port v) e did z = absurd did
+      refused (Stops x) e did z = rw (same_stop z did.0, did.1) (halted e)
 
     -- ---- a statement is begun
 

@@ -115,18 +115,16 @@ fn run(t: &[u16; 8466], u: &mut [u64; 2112], limit: usize, q: &mut [u8], budget:
                 if FAULT <= v {
                     return stopped(eval::stop_of(v), s, budget - left, records);
                 }
-                let h = steps::assign(t, u, tag, named(t, s, 1), v);
-                if h != 0 {
-                    return stopped(eval::stop_of(FAULT + (h as u64)), s, budget - left, records);
+                if let Err(h) = steps::assign(t, u, tag, named(t, s, 1), v) {
+                    return stopped(h, s, budget - left, records);
                 }
                 let w = x.stack[depth];
                 kind = kind_in(w);
                 s = stmt_in(w);
             }
             2 => {
-                let h = steps::store(t, u, tag, named(t, s, 1), named(t, s, 2));
-                if h != 0 {
-                    return stopped(eval::stop_of(FAULT + (h as u64)), s, budget - left, records);
+                if let Err(h) = steps::store(t, u, tag, named(t, s, 1), named(t, s, 2)) {
+                    return stopped(h, s, budget - left, records);
                 }
                 let w = x.stack[depth];
                 kind = kind_in(w);

@@ -14,12 +14,12 @@ use Rattle.rules.specs.Memory.{value_of, tag_of}
 use Rattle.rules.specs.Steps.{assigns, stores}
 use Rattle.layout.specs.Places.{held_in, value_in}
 use Rattle.layout.specs.Answers.{answer_of, worth_of}
-use Rattle.steps.specs.Asks.{Done}
+use Rattle.steps.specs.Asks.{Written, Done}
 use Rattle.steps.proofs.assign.Reads as assign
 use Rattle.steps.proofs.store.Reads as store
 use Rattle.steps.proofs.may_emit.Reads as may-emit
 
-done_one : (a : Act) (u : List ℕ) {h k : ℕ} {v w : List ℕ} → Done a h u v → Done a k u w → (h ≡ k) × (v ≡ w)
+done_one : (a : Act) (u : List ℕ) {h k : Written} {v w : List ℕ} → Done a h u v → Done a k u w → (h ≡ k) × (v ≡ w)
 done_one Passes u d e = absurd d
 done_one (Pushes f b t) u d e = absurd d
 done_one (Writes i q) u d e = (d.0 ∙ sym e.0, d.1 ∙ sym e.1)

@@ -1,6 +1,6 @@
 -- What a statement asks of the places, done: of a recipe r under a policy p, over the places in u and under branch tag b.
 -- Assumes nothing.
-use Rattle.std.specs.Prelude.{ℕ, ◌+◌, ◌/◌, ◌^◌, ◌<◌, ◌≡◌, Bool, List, eqb, get_or, set, Ok}
+use Rattle.std.specs.Prelude.{ℕ, ◌+◌, ◌/◌, ◌^◌, ◌<◌, ◌≡◌, Bool, List, eqb, get_or, set, Result, Ok, Err}
 use Rattle.rules.specs.declared.Place.{Place}
 use Rattle.rules.specs.declared.Act.{Act}
 use Rattle.rules.specs.declared.Act.TheVariants.{Passes, Pushes, Writes, Records, Stops}
@@ -9,35 +9,39 @@ use Rattle.rules.specs.Policy.{policy_of}
 use Rattle.rules.specs.Recipe.{recipe_of}
 use Rattle.rules.specs.Memory.{value_of, tag_of}
 use Rattle.rules.specs.Steps.{assigns, stores}
-use Rattle.rules.specs.Ends.{stop_number}
+use Rattle.rules.specs.declared.Stop.{Stop}
 use Rattle.layout.specs.Tables.{join_in}
 use Rattle.layout.specs.Places.{Ready, held_in, value_in}
 use Rattle.layout.specs.Answers.{answer_of, worth_of}
 
--- what the act asked of the places was done: written, with 0; or nothing, with the number of the end
-abbrev pub Done : Act → (h : ℕ) → (u v : List ℕ) → Type 0
+-- what a write comes to: done, or the end that forbids it
+abbrev pub Written : Type 0
+Written = Result (Unit {0}) Stop
+
+-- what the act asked of the places was done: written; or nothing, with the end
+abbrev pub Done : Act → (h : Written) → (u v : List ℕ) → Type 0
 Done Passes h u v = ⊥
 Done (Pushes f a t) h u v = ⊥
-Done (Writes i q) h u v = (h ≡ 0) × (v ≡ set u i (answer_of (Ok q)))
+Done (Writes i q) h u v = (h ≡ Ok tt) × (v ≡ set u i (answer_of (Ok q)))
 Done (Records port w) h u v = ⊥
-Done (Stops x) h u v = (h ≡ stop_number x) × (v ≡ u)
+Done (Stops x) h u v = (h ≡ Err x) × (v ≡ u)
 
 -- ---- what the statement asks was done, with h and the places u', for all accepted tables that t and u hold
 
 -- variable i is given the value v
-abbrev pub Assigned : (t u : List ℕ) (b i v h : ℕ) (u' : List ℕ) → Type 0
+abbrev pub Assigned : (t u : List ℕ) (b i v : ℕ) (h : Written) (u' : List ℕ) → Type 0
 Assigned t u b i v h u' =
     (r p : List ℕ) (q : Place) → Ready r p t u → b < byte p 6 → i < (recipe_of r).vars → tag_of q < byte p 6 → value_of q < 2 ^ 32
     → v ≡ answer_of (Ok q) → Done (assigns (policy_of p) (recipe_of r) (held_in (recipe_of r) u) b i (Ok q)) h u u'
 
 -- the cell of index x is given the value v
-abbrev pub StoredAt : (t u : List ℕ) (b x v h : ℕ) (u' : List ℕ) → Type 0
+abbrev pub StoredAt : (t u : List ℕ) (b x v : ℕ) (h : Written) (u' : List ℕ) → Type 0
 StoredAt t u b x v h u' =
     (r p : List ℕ) → Ready r p t u → b < byte p 6 → x / 4294967296 < byte p 6 → v / 4294967296 < byte p 6
     → Done (stores (policy_of p) (recipe_of r) (held_in (recipe_of r) u) b (Ok (worth_of x)) (Ok (worth_of v))) h u u'
 
 -- the cell that expression i names is given what expression e gives
-abbrev pub Stored : (t u : List ℕ) (b i e h : ℕ) (u' : List ℕ) → Type 0
+abbrev pub Stored : (t u : List ℕ) (b i e : ℕ) (h : Written) (u' : List ℕ) → Type 0
 Stored t u b i e h u' =
     (r p : List ℕ) → Ready r p t u → b < byte p 6 → i < (recipe_of r).exprs → e < (recipe_of r).exprs
     → Done (stores (policy_of p) (recipe_of r) (held_in (recipe_of r) u) b (value_in r p u i) (value_in r p u e)) h u u'

@@ -6,6 +6,7 @@ ghost use Rattle.layout.specs.Tables.{join_in};
 ghost use Rattle.steps.specs.Asks.{Assigned, Stored, StoredAt, may_emit, AssignGiven, StoreGiven, CellGiven};
 
 use eval::FAULT;
+use rules::Stop;
 
 fn put_place(u: &mut [u64; 2112], i: usize, w: u32, g: u32)
     requires { i < 2112 }
@@ -14,51 +15,51 @@ fn put_place(u: &mut [u64; 2112], i: usize, w: u32, g: u32)
     u[i] = eval::answer(w, g);
 }
 
-// v is a value. Gives 0, or the number of the end that forbids the assignment.
-pub fn assign(t: &[u16; 8466], u: &mut [u64; 2112], tag: u32, i: usize, v: u64) -> u32
+// v is a value. Gives the end that forbids the assignment, if one does.
+pub fn assign(t: &[u16; 8466], u: &mut [u64; 2112], tag: u32, i: usize, v: u64) -> Result<(), Stop>
     requires { AssignGiven t.now u.old tag i v }
     ensures { Assigned t.now u.old tag i v result u.new }
 {
     let old = eval::tag_at(u, i);
     if eval::join(t, tag, old) != old {
-        return 2;
+        return Err(Stop::AssignTag);
     }
     let g = eval::join(t, tag, eval::tag_of(v));
     put_place(u, i, eval::word_of(v), g);
-    0
+    Ok(())
 }
 
 // x, the index, and v are values.
-fn store_at(t: &[u16; 8466], u: &mut [u64; 2112], tag: u32, x: u64, v: u64) -> u32
+fn store_at(t: &[u16; 8466], u: &mut [u64; 2112], tag: u32, x: u64, v: u64) -> Result<(), Stop>
     requires { CellGiven t.now u.old tag x v }
     ensures { StoredAt t.now u.old tag x v result u.new }
 {
     if (t[8465] as u32) <= eval::word_of(x) {
-        return 5;
+        return Err(Stop::Index);
     }
     let n = (t[8464] as usize) + (eval::word_of(x) as usize);
     let b = eval::join(t, tag, eval::tag_of(x));
     let old = eval::tag_at(u, n);
     if eval::join(t, b, old) != old {
-        return 3;
+        return Err(Stop::StoreTag);
     }
     let g = eval::join(t, b, eval::tag_of(v));
     put_place(u, n, eval::word_of(v), g);
-    0
+    Ok(())
 }
 
-// Expression i is the index and e the value. Gives 0, or the number of the end that forbids the store.
-pub fn store(t: &[u16; 8466], u: &mut [u64; 2112], tag: u32, i: usize, e: usize) -> u32
+// Expression i is the index and e the value. Gives the end that forbids the store, if one does.
+pub fn store(t: &[u16; 8466], u: &mut [u64; 2112], tag: u32, i: usize, e: usize) -> Result<(), Stop>
     requires { StoreGiven t.now u.old tag i e }
     ensures { Stored t.now u.old tag i e result u.new }
 {
     let x = eval::value(t, u, i);
     if FAULT <= x {
-        return eval::word_of(x);
+        return Err(eval::stop_of(x));
     }
     let v = eval::value(t, u, e);
     if FAULT <= v {
-        return eval::word_of(v);
+        return Err(eval::stop_of(v));
     }
     store_at(t, u, tag, x, v)
 }

@@ -13,36 +13,11 @@ use Rattle.machine.proofs.Turns.{starts, depth_below, branch_low, held_now, bran
 use Rattle.machine.proofs.Arms.{worth_tag, worth_word, worth_answer, did_as, chooses_no, chooses_yes, loops_no, loops_yes, tests_no, tests_yes, emits_no, emits_yes, emit_given, emit_on, emit_off}
 use Rattle.machine.proofs.run.Goals as goal
 
-pub overflow_sub-s : goal.overflow_sub-s
-overflow_sub-s c = omega (arith, c.requires.limited, c.requires.ready.recipe.counts.some_stmt)
-
-pub kind_at-kind-requires : goal.kind_at-kind-requires
-kind_at-kind-requires c =
-    let pre = c.requires in
-    let args = c.args in (
-      omega (arith, pre.limited, pre.ready.recipe.counts.some_stmt, pre.ready.recipe.counts.few_stmts),
-      omega (arith, kind_low pre.ready (args.limit - 1) (omega (arith, pre.limited, pre.ready.recipe.counts.some_stmt))),
-    )
-
 pub loop-left-init : goal.loop-left-init
 loop-left-init c = λ r p a l. starts a c.requires.all_places refl refl (rw l) c.kind_at-kind.ensures
 
-pub shape_of-q-then-kind-eq10 : goal.shape_of-q-then-kind-eq10
-shape_of-q-then-kind-eq10 c =
-    let pre = c.requires in
-    let loop = c.loop-left in
-    let g = loop.invariant pre.recipe pre.policy pre.ready pre.limited in
-    g.same_room
-
 pub returns-then-kind-eq10 : goal.returns-then-kind-eq10
 returns-then-kind-eq10 c = λ r p a l. let g = c.loop-left.invariant r p a l in done_spent g c.if-left-eq0.true (omega (arith, c.if-kind-eq10.true))
-
-pub shape_of-q-then-left-eq0 : goal.shape_of-q-then-left-eq0
-shape_of-q-then-left-eq0 c =
-    let pre = c.requires in
-    let loop = c.loop-left in
-    let g = loop.invariant pre.recipe pre.policy pre.ready pre.limited in
-    g.same_room
 
 pub returns-then-left-eq0 : goal.returns-then-left-eq0
 returns-then-left-eq0 c = λ r p a l. let g = c.loop-left.invariant r p a l in spent g c.if-left-eq0.true c.if-kind-eq10.false
@@ -99,13 +74,6 @@ overflow_sub-budget c =
     let g = loop.invariant pre.recipe pre.policy pre.ready pre.limited in
     omega (arith, g.few)
 
-pub shape_of-q-then-v-ge-FAULT : goal.shape_of-q-then-v-ge-FAULT
-shape_of-q-then-v-ge-FAULT c =
-    let pre = c.requires in
-    let loop = c.loop-left in
-    let g = loop.invariant pre.recipe pre.policy pre.ready pre.limited in
-    g.same_room
-
 pub returns-then-v-ge-FAULT : goal.returns-then-v-ge-FAULT
 returns-then-v-ge-FAULT c =
     let loop = c.loop-left in
@@ -132,8 +100,8 @@ named-requires-in-1 c =
     let low = there g more (omega arith) c.in-1.is in
     (omega (arith, low, g.ready.recipe.counts.few_stmts), omega arith, first_fits g.ready low)
 
-pub assign-h-requires : goal.assign-h-requires
-assign-h-requires c =
+pub assign-requires : goal.assign-requires
+assign-requires c =
     let pre = c.requires in
     let loop = c.loop-left in
     let if1 = c.if-left-eq0 in
@@ -155,22 +123,15 @@ assign-h-requires c =
       tagged = tagged;
     }
 
-pub overflow_sub-budget-then-h-ne0 : goal.overflow_sub-budget-then-h-ne0
-overflow_sub-budget-then-h-ne0 c =
+pub overflow_sub-budget-in-Err : goal.overflow_sub-budget-in-Err
+overflow_sub-budget-in-Err c =
     let pre = c.requires in
     let loop = c.loop-left in
     let g = loop.invariant pre.recipe pre.policy pre.ready pre.limited in
     omega (arith, g.few)
 
-pub shape_of-q-then-h-ne0 : goal.shape_of-q-then-h-ne0
-shape_of-q-then-h-ne0 c =
-    let pre = c.requires in
-    let loop = c.loop-left in
-    let g = loop.invariant pre.recipe pre.policy pre.ready pre.limited in
-    g.same_room
-
-pub returns-then-h-ne0 : goal.returns-then-h-ne0
-returns-then-h-ne0 c =
+pub returns-in-Err : goal.returns-in-Err
+returns-in-Err c =
     let loop = c.loop-left in
     let if1 = c.if-left-eq0 in
     let more = pos_of_ne-zero if1.false in
@@ -178,21 +139,18 @@ returns-then-h-ne0 c =
     let value = c.value-v in
     let if3 = c.if-v-ge-FAULT in
     let named2 = c.named-in-1 in
-    let assign = c.assign-h in
-    let if4 = c.if-h-ne0 in
-    let stop-of2 = c.stop_of-then-h-ne0 in
-    let stopped2 = c.stopped-then-h-ne0 in
+    let assign = c.assign in
+    let stopped2 = c.stopped-in-Err in
     λ r p a l. let g = loop.invariant r p a l in
     let parts = names g more (omega arith) c.in-1.is in
     let now = begun g more (omega arith) c.in-1.is in
     let answer = rw named.ensures at value.ensures in
     let found = value_found g.ready parts.1 answer if3.false in
     let tagged = tag_found g.ready parts.1 answer if3.false in
-    let z : 9223372036854775808 + assign.result - 9223372036854775808 ≡ assign.result = omega arith in
-    rw (stopped2.ensures, stop-of2.ensures, z) (refused g more (asks_now g more (omega arith) c.in-1.is) now
+    rw stopped2.ensures (refused g more (asks_now g more (omega arith) c.in-1.is) now
     (did_as (policy_of p) (recipe_of r) (held_now g) (branch_now g) _ _ _ _ (worth_of value.result) found
     (rw named2.ensures at (assign.ensures r p (worth_of value.result) g.ready g.standing.branch (rw named2.ensures parts.0)
-    (worth_tag _ tagged) (worth_word _) (worth_answer _)))) if4.true)
+    (worth_tag _ tagged) (worth_word _) (worth_answer _)))) c.in-Err.is)
 
 pub offset_bounds-x-depth-in-1 : goal.offset_bounds-x-depth-in-1
 offset_bounds-x-depth-in-1 c =
@@ -217,8 +175,7 @@ loop-left-preserved-in-1 c =
     let value = c.value-v in
     let if3 = c.if-v-ge-FAULT in
     let named2 = c.named-in-1 in
-    let assign = c.assign-h in
-    let if4 = c.if-h-ne0 in
+    let assign = c.assign in
     let kind-in2 = c.kind_in-kind-in-1 in
     let stmt-in2 = c.stmt_in-s-in-1 in
     λ r p a l. let g = loop.invariant r p a l in
@@ -230,7 +187,7 @@ loop-left-preserved-in-1 c =
     wrote_on g more _ now (act_fits g more (omega arith) c.in-1.is)
     (did_as (policy_of p) (recipe_of r) (held_now g) (branch_now g) _ _ _ _ (worth_of value.result) found
     (rw named2.ensures at (assign.ensures r p (worth_of value.result) g.ready g.standing.branch (rw named2.ensures parts.0)
-    (worth_tag _ tagged) (worth_word _) (worth_answer _)))) if4.false kind-in2.ensures stmt-in2.ensures
+    (worth_tag _ tagged) (worth_word _) (worth_answer _)))) c.in_default-assign.is kind-in2.ensures stmt-in2.ensures
 
 pub named-requires-in-2 : goal.named-requires-in-2
 named-requires-in-2 c =
@@ -252,8 +209,8 @@ named-requires-in-2-2 c =
     let low = there g more (omega arith) c.in-2.is in
     (omega (arith, low, g.ready.recipe.counts.few_stmts), omega arith, second_fits g.ready low)
 
-pub store-h-requires : goal.store-h-requires
-store-h-requires c =
+pub store-requires : goal.store-requires
+store-requires c =
     let pre = c.requires in
     let loop = c.loop-left in
     let if1 = c.if-left-eq0 in
@@ -271,38 +228,28 @@ store-h-requires c =
       value = rw named4.ensures parts.1;
     }
 
-pub overflow_sub-budget-then-h-ne0-2 : goal.overflow_sub-budget-then-h-ne0-2
-overflow_sub-budget-then-h-ne0-2 c =
+pub overflow_sub-budget-in-Err-store : goal.overflow_sub-budget-in-Err-store
+overflow_sub-budget-in-Err-store c =
     let pre = c.requires in
     let loop = c.loop-left in
     let g = loop.invariant pre.recipe pre.policy pre.ready pre.limited in
     omega (arith, g.few)
 
-pub shape_of-q-then-h-ne0-2 : goal.shape_of-q-then-h-ne0-2
-shape_of-q-then-h-ne0-2 c =
-    let pre = c.requires in
-    let loop = c.loop-left in
-    let g = loop.invariant pre.recipe pre.policy pre.ready pre.limited in
-    g.same_room
-
-pub returns-then-h-ne0-2 : goal.returns-then-h-ne0-2
-returns-then-h-ne0-2 c =
+pub returns-in-Err-store : goal.returns-in-Err-store
+returns-in-Err-store c =
     let loop = c.loop-left in
     let if1 = c.if-left-eq0 in
     let more = pos_of_ne-zero if1.false in
     let named3 = c.named-in-2 in
     let named4 = c.named-in-2-2 in
-    let store = c.store-h in
-    let if5 = c.if-h-ne0-2 in
-    let stop-of3 = c.stop_of-then-h-ne0-2 in
-    let stopped3 = c.stopped-then-h-ne0-2 in
+    let store = c.store in
+    let stopped3 = c.stopped-in-Err-store in
     λ r p a l. let g = loop.invariant r p a l in
     let parts = names g more (omega arith) c.in-2.is in
     let now = begun g more (omega arith) c.in-2.is in
-    let z : 9223372036854775808 + store.result - 9223372036854775808 ≡ store.result = omega arith in
-    rw (stopped3.ensures, stop-of3.ensures, z) (refused g more (asks_now g more (omega arith) c.in-2.is) now
+    rw stopped3.ensures (refused g more (asks_now g more (omega arith) c.in-2.is) now
     (rw (named3.ensures, named4.ensures) at (store.ensures r p g.ready g.standing.branch (rw named3.ensures parts.0)
-    (rw named4.ensures parts.1))) if5.true)
+    (rw named4.ensures parts.1))) c.in-Err-store.is)
 
 pub offset_bounds-x-depth-in-2 : goal.offset_bounds-x-depth-in-2
 offset_bounds-x-depth-in-2 c =
@@ -325,8 +272,7 @@ loop-left-preserved-in-2 c =
     let more = pos_of_ne-zero if1.false in
     let named3 = c.named-in-2 in
     let named4 = c.named-in-2-2 in
-    let store = c.store-h in
-    let if5 = c.if-h-ne0-2 in
+    let store = c.store in
     let kind-in3 = c.kind_in-kind-in-2 in
     let stmt-in3 = c.stmt_in-s-in-2 in
     λ r p a l. let g = loop.invariant r p a l in
@@ -334,7 +280,7 @@ loop-left-preserved-in-2 c =
     let now = begun g more (omega arith) c.in-2.is in
     wrote_on g more _ now (act_fits g more (omega arith) c.in-2.is)
     (rw (named3.ensures, named4.ensures) at (store.ensures r p g.ready g.standing.branch (rw named3.ensures parts.0)
-    (rw named4.ensures parts.1))) if5.false kind-in3.ensures stmt-in3.ensures
+    (rw named4.ensures parts.1))) c.in_default-store.is kind-in3.ensures stmt-in3.ensures
 
 pub overflow_sub-budget-then-limit-depth : goal.overflow_sub-budget-then-limit-depth
 overflow_sub-budget-then-limit-depth c =
@@ -342,13 +288,6 @@ overflow_sub-budget-then-limit-depth c =
     let loop = c.loop-left in
     let g = loop.invariant pre.recipe pre.policy pre.ready pre.limited in
     omega (arith, g.few)
-
-pub shape_of-q-then-limit-depth : goal.shape_of-q-then-limit-depth
-shape_of-q-then-limit-depth c =
-    let pre = c.requires in
-    let loop = c.loop-left in
-    let g = loop.invariant pre.recipe pre.policy pre.ready pre.limited in
-    g.same_room
 
 pub returns-then-limit-depth : goal.returns-then-limit-depth
 returns-then-limit-depth c =
@@ -359,14 +298,6 @@ returns-then-limit-depth c =
     let stopped4 = c.stopped-then-limit-depth in
     λ r p a l. let g = loop.invariant r p a l in
     rw stopped4.ensures (full g more (begun g more (omega arith) c.in-3.is) refl (rw l at if6.true))
-
-pub overflow_add-depth : goal.overflow_add-depth
-overflow_add-depth c =
-    let pre = c.requires in
-    let loop = c.loop-left in
-    let if6 = c.if-limit-depth in
-    let g = loop.invariant pre.recipe pre.policy pre.ready pre.limited in
-    omega (arith, if6.false, pre.limited, g.ready.recipe.counts.few_stmts)
 
 pub named-requires-in-3 : goal.named-requires-in-3
 named-requires-in-3 c =
@@ -389,22 +320,6 @@ frame_word-requires c =
     let parts = names g more (omega arith) c.in-3.is in
     let low = there g more (omega arith) c.in-3.is in
     (omega arith, omega (arith, named5.ensures, parts.1, low, g.ready.recipe.counts.few_stmts), omega arith)
-
-pub offset_bounds-x-depth-in-3 : goal.offset_bounds-x-depth-in-3
-offset_bounds-x-depth-in-3 c =
-    let pre = c.requires in
-    let loop = c.loop-left in
-    let if6 = c.if-limit-depth in
-    let g = loop.invariant pre.recipe pre.policy pre.ready pre.limited in
-    omega (arith, if6.false, pre.limited, g.ready.recipe.counts.few_stmts)
-
-pub bounds-x-depth-in-3 : goal.bounds-x-depth-in-3
-bounds-x-depth-in-3 c =
-    let pre = c.requires in
-    let loop = c.loop-left in
-    let if6 = c.if-limit-depth in
-    let g = loop.invariant pre.recipe pre.policy pre.ready pre.limited in
-    omega (arith, if6.false, pre.limited, g.ready.recipe.counts.few_stmts)
 
 pub named-s-requires : goal.named-s-requires
 named-s-requires c =
@@ -472,13 +387,6 @@ overflow_sub-budget-then-v-ge-FAULT-2 c =
     let g = loop.invariant pre.recipe pre.policy pre.ready pre.limited in
     omega (arith, g.few)
 
-pub shape_of-q-then-v-ge-FAULT-2 : goal.shape_of-q-then-v-ge-FAULT-2
-shape_of-q-then-v-ge-FAULT-2 c =
-    let pre = c.requires in
-    let loop = c.loop-left in
-    let g = loop.invariant pre.recipe pre.policy pre.ready pre.limited in
-    g.same_room
-
 pub returns-then-v-ge-FAULT-2 : goal.returns-then-v-ge-FAULT-2
 returns-then-v-ge-FAULT-2 c =
     let loop = c.loop-left in
@@ -502,13 +410,6 @@ overflow_sub-budget-then-limit-depth-2 c =
     let g = loop.invariant pre.recipe pre.policy pre.ready pre.limited in
     omega (arith, g.few)
 
-pub shape_of-q-then-limit-depth-2 : goal.shape_of-q-then-limit-depth-2
-shape_of-q-then-limit-depth-2 c =
-    let pre = c.requires in
-    let loop = c.loop-left in
-    let g = loop.invariant pre.recipe pre.policy pre.ready pre.limited in
-    g.same_room
-
 pub returns-then-limit-depth-2 : goal.returns-then-limit-depth-2
 returns-then-limit-depth-2 c =
     let loop = c.loop-left in
@@ -526,36 +427,12 @@ returns-then-limit-depth-2 c =
     let found = value_found g.ready parts.0 answer if7.false in
     rw stopped6.ensures (full g more (rw found at now) refl (rw l at if8.true))
 
-pub overflow_add-depth-in-4 : goal.overflow_add-depth-in-4
-overflow_add-depth-in-4 c =
-    let pre = c.requires in
-    let loop = c.loop-left in
-    let if8 = c.if-limit-depth-2 in
-    let g = loop.invariant pre.recipe pre.policy pre.ready pre.limited in
-    omega (arith, if8.false, pre.limited, g.ready.recipe.counts.few_stmts)
-
 pub frame_word-requires-in-4 : goal.frame_word-requires-in-4
 frame_word-requires-in-4 c =
     let pre = c.requires in
     let loop = c.loop-left in
     let g = loop.invariant pre.recipe pre.policy pre.ready pre.limited in
     (omega arith, omega arith, branch_low g)
-
-pub offset_bounds-x-depth-in-4 : goal.offset_bounds-x-depth-in-4
-offset_bounds-x-depth-in-4 c =
-    let pre = c.requires in
-    let loop = c.loop-left in
-    let if8 = c.if-limit-depth-2 in
-    let g = loop.invariant pre.recipe pre.policy pre.ready pre.limited in
-    omega (arith, if8.false, pre.limited, g.ready.recipe.counts.few_stmts)
-
-pub bounds-x-depth-in-4 : goal.bounds-x-depth-in-4
-bounds-x-depth-in-4 c =
-    let pre = c.requires in
-    let loop = c.loop-left in
-    let if8 = c.if-limit-depth-2 in
-    let g = loop.invariant pre.recipe pre.policy pre.ready pre.limited in
-    omega (arith, if8.false, pre.limited, g.ready.recipe.counts.few_stmts)
 
 pub join-tag-requires : goal.join-tag-requires
 join-tag-requires c =
@@ -701,13 +578,6 @@ overflow_sub-budget-then-v-ge-FAULT-3 c =
     let g = loop.invariant pre.recipe pre.policy pre.ready pre.limited in
     omega (arith, g.few)
 
-pub shape_of-q-then-v-ge-FAULT-3 : goal.shape_of-q-then-v-ge-FAULT-3
-shape_of-q-then-v-ge-FAULT-3 c =
-    let pre = c.requires in
-    let loop = c.loop-left in
-    let g = loop.invariant pre.recipe pre.policy pre.ready pre.limited in
-    g.same_room
-
 pub returns-then-v-ge-FAULT-3 : goal.returns-then-v-ge-FAULT-3
 returns-then-v-ge-FAULT-3 c =
     let loop = c.loop-left in
@@ -765,13 +635,6 @@ overflow_sub-budget-then-limit-depth-3 c =
     let g = loop.invariant pre.recipe pre.policy pre.ready pre.limited in
     omega (arith, g.few)
 
-pub shape_of-q-then-limit-depth-3 : goal.shape_of-q-then-limit-depth-3
-shape_of-q-then-limit-depth-3 c =
-    let pre = c.requires in
-    let loop = c.loop-left in
-    let g = loop.invariant pre.recipe pre.policy pre.ready pre.limited in
-    g.same_room
-
 pub returns-then-limit-depth-3 : goal.returns-then-limit-depth-3
 returns-then-limit-depth-3 c =
     let loop = c.loop-left in
@@ -792,14 +655,6 @@ returns-then-limit-depth-3 c =
     rw stopped8.ensures (full g more now (loops_yes (policy_of p) (recipe_of r) (held_now g) (branch_now g) value3.result found
     word-of2.ensures _ _ if11.false) (rw l at if12.true))
 
-pub overflow_add-depth-else-word_of-eq0-2 : goal.overflow_add-depth-else-word_of-eq0-2
-overflow_add-depth-else-word_of-eq0-2 c =
-    let pre = c.requires in
-    let loop = c.loop-left in
-    let if12 = c.if-limit-depth-3 in
-    let g = loop.invariant pre.recipe pre.policy pre.ready pre.limited in
-    omega (arith, if12.false, pre.limited, g.ready.recipe.counts.few_stmts)
-
 pub frame_word-requires-else-word_of-eq0-2 : goal.frame_word-requires-else-word_of-eq0-2
 frame_word-requires-else-word_of-eq0-2 c =
     let pre = c.requires in
@@ -808,22 +663,6 @@ frame_word-requires-else-word_of-eq0-2 c =
     let more = pos_of_ne-zero if1.false in
     let g = loop.invariant pre.recipe pre.policy pre.ready pre.limited in
     (omega arith, omega (arith, (there g more (omega arith) c.in-5.is), g.ready.recipe.counts.few_stmts), branch_low g)
-
-pub offset_bounds-x-depth-else-word_of-eq0-2 : goal.offset_bounds-x-depth-else-word_of-eq0-2
-offset_bounds-x-depth-else-word_of-eq0-2 c =
-    let pre = c.requires in
-    let loop = c.loop-left in
-    let if12 = c.if-limit-depth-3 in
-    let g = loop.invariant pre.recipe pre.policy pre.ready pre.limited in
-    omega (arith, if12.false, pre.limited, g.ready.recipe.counts.few_stmts)
-
-pub bounds-x-depth-else-word_of-eq0-2 : goal.bounds-x-depth-else-word_of-eq0-2
-bounds-x-depth-else-word_of-eq0-2 c =
-    let pre = c.requires in
-    let loop = c.loop-left in
-    let if12 = c.if-limit-depth-3 in
-    let g = loop.invariant pre.recipe pre.policy pre.ready pre.limited in
-    omega (arith, if12.false, pre.limited, g.ready.recipe.counts.few_stmts)
 
 pub join-tag-requires-else-word_of-eq0-2 : goal.join-tag-requires-else-word_of-eq0-2
 join-tag-requires-else-word_of-eq0-2 c =
@@ -918,13 +757,6 @@ overflow_sub-budget-then-v-ge-FAULT-4 c =
     let g = loop.invariant pre.recipe pre.policy pre.ready pre.limited in
     omega (arith, g.few)
 
-pub shape_of-q-then-v-ge-FAULT-4 : goal.shape_of-q-then-v-ge-FAULT-4
-shape_of-q-then-v-ge-FAULT-4 c =
-    let pre = c.requires in
-    let loop = c.loop-left in
-    let g = loop.invariant pre.recipe pre.policy pre.ready pre.limited in
-    g.same_room
-
 pub returns-then-v-ge-FAULT-4 : goal.returns-then-v-ge-FAULT-4
 returns-then-v-ge-FAULT-4 c =
     let loop = c.loop-left in
@@ -974,13 +806,6 @@ overflow_sub-budget-then-not-may_emit c =
     let g = loop.invariant pre.recipe pre.policy pre.ready pre.limited in
     omega (arith, g.few)
 
-pub shape_of-q-then-not-may_emit : goal.shape_of-q-then-not-may_emit
-shape_of-q-then-not-may_emit c =
-    let pre = c.requires in
-    let loop = c.loop-left in
-    let g = loop.invariant pre.recipe pre.policy pre.ready pre.limited in
-    g.same_room
-
 pub returns-then-not-may_emit : goal.returns-then-not-may_emit
 returns-then-not-may_emit c =
     let loop = c.loop-left in
@@ -1003,40 +828,12 @@ returns-then-not-may_emit c =
     (emit_off g.ready _ g.standing.branch (port_names g more (omega arith) c.in-6.is) tagged
     (rw named13.ensures at may-emit.ensures) if14.true)))
 
-pub overflow_cast-o : goal.overflow_cast-o
-overflow_cast-o c =
-    let pre = c.requires in
-    let loop = c.loop-left in
-    let g = loop.invariant pre.recipe pre.policy pre.ready pre.limited in
-    omega (arith, g.few)
-
-pub overflow_mul-o : goal.overflow_mul-o
-overflow_mul-o c =
-    let pre = c.requires in
-    let loop = c.loop-left in
-    let g = loop.invariant pre.recipe pre.policy pre.ready pre.limited in
-    omega (arith, g.few)
-
-pub overflow_add-o : goal.overflow_add-o
-overflow_add-o c =
-    let pre = c.requires in
-    let loop = c.loop-left in
-    let g = loop.invariant pre.recipe pre.policy pre.ready pre.limited in
-    omega (arith, g.few)
-
 pub overflow_sub-budget-then-q-o : goal.overflow_sub-budget-then-q-o
 overflow_sub-budget-then-q-o c =
     let pre = c.requires in
     let loop = c.loop-left in
     let g = loop.invariant pre.recipe pre.policy pre.ready pre.limited in
     omega (arith, g.few)
-
-pub shape_of-q-then-q-o : goal.shape_of-q-then-q-o
-shape_of-q-then-q-o c =
-    let pre = c.requires in
-    let loop = c.loop-left in
-    let g = loop.invariant pre.recipe pre.policy pre.ready pre.limited in
-    g.same_room
 
 pub returns-then-q-o : goal.returns-then-q-o
 returns-then-q-o c =
@@ -1227,13 +1024,6 @@ overflow_sub-budget-then-v-ge-FAULT-5 c =
     let g = loop.invariant pre.recipe pre.policy pre.ready pre.limited in
     omega (arith, g.few)
 
-pub shape_of-q-then-v-ge-FAULT-5 : goal.shape_of-q-then-v-ge-FAULT-5
-shape_of-q-then-v-ge-FAULT-5 c =
-    let pre = c.requires in
-    let loop = c.loop-left in
-    let g = loop.invariant pre.recipe pre.policy pre.ready pre.limited in
-    g.same_room
-
 pub returns-then-v-ge-FAULT-5 : goal.returns-then-v-ge-FAULT-5
 returns-then-v-ge-FAULT-5 c =
     let loop = c.loop-left in
@@ -1384,13 +1174,6 @@ overflow_sub-result-in_default c =
     let more = pos_of_ne-zero if1.false in
     let g = loop.invariant pre.recipe pre.policy pre.ready pre.limited in
     omega (arith, g.few, more)
-
-pub shape_of-q-in_default : goal.shape_of-q-in_default
-shape_of-q-in_default c =
-    let pre = c.requires in
-    let loop = c.loop-left in
-    let g = loop.invariant pre.recipe pre.policy pre.ready pre.limited in
-    g.same_room
 
 pub returns-in_default : goal.returns-in_default
 returns-in_default c =

@@ -1,25 +1,16 @@
 -- The index comes before the value. Assumes nothing.
-use mathlib.Core.Path.{refl, ◌∙◌}
-use Rattle.steps.proofs.Asked.{value_found, value_lost, tag_found}
+use mathlib.Core.Path.{refl}
+use Rattle.steps.proofs.Asked.{value_found, value_fault, tag_found}
 use Rattle.steps.proofs.store.Goals as goal
 
 pub returns-then-x-ge-FAULT : goal.returns-then-x-ge-FAULT
-returns-then-x-ge-FAULT c r p a b i e =
-    let value = c.value-x in
-    let if1 = c.if-x-ge-FAULT in
-    let word_of = c.word_of in
-    let lost = value_lost a i value.ensures if1.true in
-    rw lost.is (word_of.ensures ∙ lost.word, refl)
+returns-then-x-ge-FAULT c r p a b i e = rw (value_fault a i c.value-x.ensures c.if-x-ge-FAULT.true, c.stop_of.ensures) (refl, refl)
 
 pub returns-then-v-ge-FAULT : goal.returns-then-v-ge-FAULT
 returns-then-v-ge-FAULT c r p a b i e =
-    let value2 = c.value-v in
-    let if2 = c.if-v-ge-FAULT in
-    let value = c.value-x in
-    let if1 = c.if-x-ge-FAULT in
-    let word-of2 = c.word_of-then-v-ge-FAULT in
-    let lost = value_lost a e value2.ensures if2.true in
-    rw (value_found a i value.ensures if1.false, lost.is) (word-of2.ensures ∙ lost.word, refl)
+    let index = value_found a i c.value-x.ensures c.if-x-ge-FAULT.false in
+    let lost = value_fault a e c.value-v.ensures c.if-v-ge-FAULT.true in
+    rw (index, lost, c.stop_of-then-v-ge-FAULT.ensures) (refl, refl)
 
 pub store_at-requires : goal.store_at-requires
 store_at-requires c =
