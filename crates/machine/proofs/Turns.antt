@@ -151,11 +151,12 @@ abbrev whole : (r p u₀ q₀ : List ℕ) (B : ℕ) → Result
 whole r p u₀ q₀ B = run (policy_of p) (recipe_of r) (length q₀) B 0 (start (recipe_of r) (held_in (recipe_of r) u₀))
 
 -- what is left to run from the state that the loop holds is the whole run
-pub record Stands (r p t u₀ q₀ u q st : List ℕ) (B left k d kind s tag : ℕ) : Type 0 where
+pub record Stands (r p t u₀ q₀ u q st : List ℕ) (B taken k d kind s tag : ℕ) : Type 0 where
   pub ready : Ready r p t u
   pub records : List Record
   pub held : Holds q₀ q records k
-  pub few : k + left ≤ B
+  pub few : k ≤ taken
+  pub within : taken ≤ B
   pub size : length st ≡ 513
   pub all_places : length u ≡ 2112
   pub same_room : length q ≡ length q₀
@@ -164,19 +165,20 @@ pub record Stands (r p t u₀ q₀ u q st : List ℕ) (B left k d kind s tag : �
   pub stack : Held st d frames
   pub turned : Turned t st d kind s waiting
   pub standing : Standing (policy_of p) (recipe_of r) (length q₀) tag waiting frames (held_in (recipe_of r) u) records
-  pub rest : whole r p u₀ q₀ B ≡ run (policy_of p) (recipe_of r) (length q₀) left (B - left) (state tag waiting frames (held_in (recipe_of r) u) records)
+  pub rest : whole r p u₀ q₀ B ≡ run (policy_of p) (recipe_of r) (length q₀) (B - taken) taken (state tag waiting frames (held_in (recipe_of r) u) records)
 
 -- the loop's state as it is first
 pub starts : {r p t u q st : List ℕ} {B kind s : ℕ} → Ready r p t u → length u ≡ 2112 → length st ≡ 513 → get_or st 0 0 ≡ 81920
-    → s ≡ (recipe_of r).stmts - 1 → kind ≡ get_or t (4096 + 4 * s) 0 → Stands r p t u q u q st B B 0 0 kind s 0
+    → s ≡ (recipe_of r).stmts - 1 → kind ≡ get_or t (4096 + 4 * s) 0 → Stands r p t u q u q st B 0 0 0 kind s 0
 starts {r} {p} {t} {u} {q} {st} {B} {kind} {s} a all size low e k =
     let R = recipe_of r in
-    let z : B - B ≡ 0 = omega arith in
+    let z : B - 0 ≡ B = omega arith in
     record {
       ready = a;
       records = [];
       held = none_held q;
       few = omega arith;
+      within = omega arith;
       size = size;
       all_places = all;
       same_room = refl;
@@ -188,7 +190,7 @@ starts {r} {p} {t} {u} {q} {st} {B} {kind} {s} a all size low e k =
       rest = rw (z, e);
     }
 
-module _ {r p t u₀ q₀ u q st : List ℕ} {B left k d kind s tag : ℕ} (g : Stands r p t u₀ q₀ u q st B left k d kind s tag) where
+module _ {r p t u₀ q₀ u q st : List ℕ} {B taken k d kind s tag : ℕ} (g : Stands r p t u₀ q₀ u q st B taken k d kind s tag) where
   abbrev P : Policy
   P = policy_of p
 
@@ -217,7 +219,7 @@ module _ {r p t u₀ q₀ u q st : List ℕ} {B left k d kind s tag : ℕ} (g : 
 
   -- ---- ends
 
-  ended : {e : End} {n : ℕ} → run P R (length q₀) left (B - left) now ≡ ends e n now → RunAs r p t u₀ q₀ B (outcome_of e n k) u q
+  ended : {e : End} {steps : ℕ} → run P R (length q₀) (B - taken) taken now ≡ ends e steps now → RunAs r p t u₀ q₀ B (outcome_of e steps k) u q
   unfolding written_back
   ended e =
       record {
@@ -225,48 +227,44 @@ module _ {r p t u₀ q₀ u q st : List ℕ} {B left k d kind s tag : ℕ} (g : 
         ready = g.ready;
       }
 
-  done : 9 < kind → RunAs r p t u₀ q₀ B (outcome_of Done (B - left) k) u q
+  pub done : 9 < kind → RunAs r p t u₀ q₀ B (outcome_of Done taken k) u q
   done h =
       let z = top_none g.ready g.standing.waiting g.turned g.stack g.standing.frames h in
-      ended (run_done P R (length q₀) left (B - left) now (rw (z.0, z.1)))
+      ended (run_done P R (length q₀) (B - taken) taken now (rw (z.0, z.1)))
 
-  module _ (z : left ≡ 0) where
-    all_spent : B - left ≡ B
-    all_spent = omega arith
-
+  -- the budget is used up
+  module _ (z : taken ≡ B) where
     pub done_spent : 9 < kind → RunAs r p t u₀ q₀ B (outcome_of Done B k) u q
-    done_spent h = subst (λ n. RunAs r p t u₀ q₀ B (outcome_of Done n k) u q) all_spent (done h)
+    done_spent h = subst (λ n. RunAs r p t u₀ q₀ B (outcome_of Done n k) u q) z (done h)
 
     pub spent : (kind ≡ 10 → ⊥) → RunAs r p t u₀ q₀ B (outcome_of Budget B k) u q
-    spent n =
-        subst (λ n. RunAs r p t u₀ q₀ B (outcome_of Budget n k) u q) all_spent
-        (ended (rw z (run_spent P R (length q₀) (B - 0) now (moves_now P R (length q₀) tag (held_in R u) g.records g.turned g.stack n))))
+    spent m =
+        let none : B - taken ≡ 0 = omega arith in
+        subst (λ n. RunAs r p t u₀ q₀ B (outcome_of Budget n k) u q) z
+        (ended (rw none (run_spent P R (length q₀) taken now (moves_now P R (length q₀) tag (held_in R u) g.records g.turned g.stack m))))
 
-  module _ (less : 0 < left) where
-    pub halted : {h : Stop} {i : ℕ} → stepped ≡ Halts h i → RunAs r p t u₀ q₀ B (outcome_of (Stopped h i) (B - (left - 1)) k) u q
-    halted e =
-        let z : B - left + 1 ≡ B - (left - 1) = omega (arith, g.few) in
-        rw (← z) (ended (run_stop P R (length q₀) left (B - left) now less e))
+  module _ (less : taken < B) where
+    some_left : 0 < B - taken
+    some_left = omega arith
 
-    pub done_late : 9 < kind → RunAs r p t u₀ q₀ B (outcome_of Done (B - (left - 1) - 1) k) u q
-    done_late h =
-        let z : B - (left - 1) - 1 ≡ B - left = omega (arith, g.few) in
-        rw z (done h)
+    pub halted : {h : Stop} {i : ℕ} → stepped ≡ Halts h i → RunAs r p t u₀ q₀ B (outcome_of (Stopped h i) (taken + 1) k) u q
+    halted e = ended (run_stop P R (length q₀) (B - taken) taken now some_left e)
 
     -- ---- the next turn
 
     pub moved : {u' q' st' : List ℕ} {k' d' kind' s' tag' : ℕ} {w' : Option ℕ} {l' : List Frame} {c : List Record}
         → stepped ≡ Goes (state tag' w' l' (held_in R u') c)
         → Holds q₀ q' c k' → k' ≤ k + 1 → length st' ≡ 513 → length u' ≡ 2112 → Ready r p t u' → Held st' d' l' → Turned t st' d' kind' s' w'
-        → Stands r p t u₀ q₀ u' q' st' B (left - 1) k' d' kind' s' tag'
+        → Stands r p t u₀ q₀ u' q' st' B (taken + 1) k' d' kind' s' tag'
     moved {w' = w'} {l' = l'} {c = c} e h few size all ready stack turned =
-        let z : B - left + 1 ≡ B - (left - 1) = omega (arith, g.few) in
+        let z : B - taken - 1 ≡ B - (taken + 1) = omega arith in
         let after = standing_after (keeps_step (sound_ready g.ready) (length q₀) now g.standing) e in
         record {
           ready = ready;
           records = c;
           held = h;
           few = omega (arith, g.few);
+          within = omega arith;
           size = size;
           all_places = all;
           same_room = length_held h (rw h.counted at after.fits);
@@ -275,52 +273,52 @@ module _ {r p t u₀ q₀ u q st : List ℕ} {B left k d kind s tag : ℕ} (g : 
           stack = stack;
           turned = turned;
           standing = after;
-          rest = g.rest ∙ run_go P R (length q₀) left (B - left) now less e ∙ rw z;
+          rest = g.rest ∙ run_go P R (length q₀) (B - taken) taken now some_left e ∙ rw z;
         }
 
     -- the places, the records and the stack stay
     pub stays : {kind' s' tag' d' : ℕ} {w' : Option ℕ} {l' : List Frame} → stepped ≡ Goes (state tag' w' l' (held_in R u) g.records)
-        → Held st d' l' → Turned t st d' kind' s' w' → Stands r p t u₀ q₀ u q st B (left - 1) k d' kind' s' tag'
+        → Held st d' l' → Turned t st d' kind' s' w' → Stands r p t u₀ q₀ u q st B (taken + 1) k d' kind' s' tag'
     stays e stack turned = moved e g.held (omega arith) g.size g.all_places g.ready stack turned
 
     -- a statement asks a
     module _ {a : Act} (asked : stepped ≡ performs R (length q₀) s tag g.frames (held_in R u) g.records a) where
       pub passes_on : a ≡ Passes → {kind' s' : ℕ} → kind' ≡ get_or st d 0 / 8192 → s' ≡ get_or st d 0 / 16 % 512
-          → Stands r p t u₀ q₀ u q st B (left - 1) k d kind' s' tag
+          → Stands r p t u₀ q₀ u q st B (taken + 1) k d kind' s' tag
       passes_on e x y = stays (rw e at asked) g.stack (at_top x y)
 
-      pub stops_at : {h : Stop} → a ≡ Stops h → RunAs r p t u₀ q₀ B (outcome_of (Stopped h s) (B - (left - 1)) k) u q
+      pub stops_at : {h : Stop} → a ≡ Stops h → RunAs r p t u₀ q₀ B (outcome_of (Stopped h s) (taken + 1) k) u q
       stops_at e = halted (rw e at asked)
 
       module _ {f : Frame} {n b : ℕ} (e : a ≡ Pushes f n b) where
         pub pushes_on : {w kind' s' tag' : ℕ} → d < R.stmts → w ≡ word_of f → s' ≡ n → tag' ≡ b → kind' ≡ get_or t (4096 + 4 * s') 0
-            → Stands r p t u₀ q₀ u q (set st (d + 1) w) B (left - 1) k (d + 1) kind' s' tag'
+            → Stands r p t u₀ q₀ u q (set st (d + 1) w) B (taken + 1) k (d + 1) kind' s' tag'
         unfolding check
         pushes_on {w} l j i h x =
             moved ((rw (e, frames_length g.stack, lt-ltb d R.stmts l) at asked) ∙ rw (i, h))
             g.held (omega arith) (length-set st (d + 1) w ∙ g.size) g.all_places g.ready
             (pushed g.stack f w j (omega (arith, g.size, l, g.ready.recipe.counts.few_stmts))) (at_stmt x)
 
-        pub full : R.stmts ≤ d → RunAs r p t u₀ q₀ B (outcome_of (Stopped Frames s) (B - (left - 1)) k) u q
+        pub full : R.stmts ≤ d → RunAs r p t u₀ q₀ B (outcome_of (Stopped Frames s) (taken + 1) k) u q
         unfolding check
         full l = halted (rw (e, frames_length g.stack, le-ltb d R.stmts l) at asked)
 
       module _ {port w : ℕ} (e : a ≡ Records port w) where
         pub records_on : 5 * k + 5 ≤ length q₀ → {kind' s' : ℕ} → kind' ≡ get_or st d 0 / 8192 → s' ≡ get_or st d 0 / 16 % 512
-            → Stands r p t u₀ q₀ u (recorded q (5 * k) port w) st B (left - 1) (k + 1) d kind' s' tag
+            → Stands r p t u₀ q₀ u (recorded q (5 * k) port w) st B (taken + 1) (k + 1) d kind' s' tag
         unfolding check
         records_on l x y =
             moved (rw (e, g.held.counted, le-leb (5 * k + 5) (length q₀) l) at asked)
             (more_held port w g.held l) (omega arith) g.size g.all_places g.ready g.stack (at_top x y)
 
-        pub no_room : length q₀ < 5 * k + 5 → RunAs r p t u₀ q₀ B (outcome_of (Stopped Room s) (B - (left - 1)) k) u q
+        pub no_room : length q₀ < 5 * k + 5 → RunAs r p t u₀ q₀ B (outcome_of (Stopped Room s) (taken + 1) k) u q
         unfolding check
         no_room l = halted (rw (e, g.held.counted, lt-leb (5 * k + 5) (length q₀) l) at asked)
 
     -- a statement asked a, and steps did it
     module _ {h : asks.Written} {u' : List ℕ} where
       pub wrote_on : (a : Act) → stepped ≡ performs R (length q₀) s tag g.frames (held_in R u) g.records a → ActOk P R a → asks.Done a h u u' → h ≡ Ok tt
-          → {kind' s' : ℕ} → kind' ≡ get_or st d 0 / 8192 → s' ≡ get_or st d 0 / 16 % 512 → Stands r p t u₀ q₀ u' q st B (left - 1) k d kind' s' tag
+          → {kind' s' : ℕ} → kind' ≡ get_or st d 0 / 8192 → s' ≡ get_or st d 0 / 16 % 512 → Stands r p t u₀ q₀ u' q st B (taken + 1) k d kind' s' tag
       unfolding value_of tag_of
       wrote_on Passes e ok did z x y = absurd did
       wrote_on (Pushes f n b) e ok did z x y = absurd did
@@ -336,7 +334,7 @@ module _ {r p t u₀ q₀ u q st : List ℕ} {B left k d kind s tag : ℕ} (g : 
       wrote_on (Stops n) e ok did z x y = absurd (no_stop did.0 z)
 
       pub refused : (a : Act) → stepped ≡ performs R (length q₀) s tag g.frames (held_in R u) g.records a → asks.Done a h u u' → {n : Stop} → h ≡ Err n
-          → RunAs r p t u₀ q₀ B (outcome_of (Stopped n s) (B - (left - 1)) k) u' q
+          → RunAs r p t u₀ q₀ B (outcome_of (Stopped n s) (taken + 1) k) u' q
       refused Passes e did z = absurd did
       refused (Pushes f m b) e did z = absurd did
       refused (Writes i v) e did z = absurd (no_stop z did.0)
@@ -369,7 +367,7 @@ module _ {r p t u₀ q₀ u q st : List ℕ} {B left k d kind s tag : ℕ} (g : 
       act_fits = rw (stmt_is g.ready there kind_as) at (act_ok (sound_ready g.ready) there g.standing.branch g.standing.places)
 
       pub fails_with : {h : Stop} → begins P R (held_in R u) tag s (stmt_from c (named 1) (named 2) (named 3)) ≡ Stops h
-          → RunAs r p t u₀ q₀ B (outcome_of (Stopped h s) (B - (left - 1)) k) u q
+          → RunAs r p t u₀ q₀ B (outcome_of (Stopped h s) (taken + 1) k) u q
       fails_with e = stops_at begun e
 
       pub names : StmtOk R.vars R.exprs s (stmt_from c (named 1) (named 2) (named 3))
@@ -389,7 +387,7 @@ module _ {r p t u₀ q₀ u q st : List ℕ} {B left k d kind s tag : ℕ} (g : 
     pub next_there : kind ≡ 7 → s < R.stmts
     next_there e = (rw (next_top e).frames_are at g.standing.frames).0
 
-    pub next_on : kind ≡ 7 → {kind' : ℕ} → kind' ≡ get_or t (4096 + 4 * s) 0 → Stands r p t u₀ q₀ u q st B (left - 1) k (d - 1) kind' s tag
+    pub next_on : kind ≡ 7 → {kind' : ℕ} → kind' ≡ get_or t (4096 + 4 * s) 0 → Stands r p t u₀ q₀ u q st B (taken + 1) k (d - 1) kind' s tag
     next_on e x =
         let z = next_top e in
         stays (step_at P R (length q₀) tag (held_in R u) g.records z.waits z.frames_are) z.below (at_stmt x)
@@ -401,7 +399,7 @@ module _ {r p t u₀ q₀ u q st : List ℕ} {B left k d kind s tag : ℕ} (g : 
     join_some e = (join_top e).some
 
     pub join_on : kind ≡ 8 → {kind' s' tag' : ℕ} → tag' ≡ get_or st d 0 % 16 → kind' ≡ get_or st (d - 1) 0 / 8192 → s' ≡ get_or st (d - 1) 0 / 16 % 512
-        → Stands r p t u₀ q₀ u q st B (left - 1) k (d - 1) kind' s' tag'
+        → Stands r p t u₀ q₀ u q st B (taken + 1) k (d - 1) kind' s' tag'
     join_on e h x y =
         let z = join_top e in
         stays (step_at P R (length q₀) tag (held_in R u) g.records z.waits z.frames_are ∙ goes_as (sym h) refl refl) z.below (at_top x y)
@@ -435,14 +433,14 @@ module _ {r p t u₀ q₀ u q st : List ℕ} {B left k d kind s tag : ℕ} (g : 
       took = step_at P R (length q₀) tag (held_in R u) g.records top.waits top.frames_are ∙ ap (λ x. takes R (length q₀) s tag top.rest (held_in R u) g.records (get_or st d 0 % 16) (repeats P R (held_in R u) tag (loop_in x))) is_while
 
       pub repeats_on : {b : ℕ} → tests P R (held_in R u) tag body_at (eval P R (held_in R u) test_at) ≡ Repeats body_at b
-          → {kind' s' tag' : ℕ} → s' ≡ body_at → tag' ≡ b → kind' ≡ get_or t (4096 + 4 * s') 0 → Stands r p t u₀ q₀ u q st B (left - 1) k d kind' s' tag'
+          → {kind' s' tag' : ℕ} → s' ≡ body_at → tag' ≡ b → kind' ≡ get_or t (4096 + 4 * s') 0 → Stands r p t u₀ q₀ u q st B (taken + 1) k d kind' s' tag'
       repeats_on a i h x = stays ((rw a at took) ∙ goes_as (sym h) (ap Some (sym i)) (sym top.frames_are)) g.stack (at_stmt x)
 
       pub leaves_on : tests P R (held_in R u) tag body_at (eval P R (held_in R u) test_at) ≡ Leaves
           → {kind' s' tag' : ℕ} → tag' ≡ get_or st d 0 % 16 → kind' ≡ get_or st (d - 1) 0 / 8192 → s' ≡ get_or st (d - 1) 0 / 16 % 512
-          → Stands r p t u₀ q₀ u q st B (left - 1) k (d - 1) kind' s' tag'
+          → Stands r p t u₀ q₀ u q st B (taken + 1) k (d - 1) kind' s' tag'
       leaves_on a h x y = stays ((rw a at took) ∙ goes_as (sym h) refl refl) top.below (at_top x y)
 
       pub fails_at : {h : Stop} → tests P R (held_in R u) tag body_at (eval P R (held_in R u) test_at) ≡ Fails h
-          → RunAs r p t u₀ q₀ B (outcome_of (Stopped h s) (B - (left - 1)) k) u q
+          → RunAs r p t u₀ q₀ B (outcome_of (Stopped h s) (taken + 1) k) u q
       fails_at a = halted (rw a at took)

@@ -86,24 +86,8 @@ fn run(t: &[u16; 8466], u: &mut [u64; 2112], limit: usize, q: &mut [u8], budget:
     let mut s: usize = limit - 1;
     let mut kind: usize = kind_at(t, s);
     let mut tag: u32 = 0;
-    let mut left: u32 = budget;
     let mut records: u32 = 0;
-    loop {
-        if left == 0 {
-            if kind == 10 {
-                return Outcome {
-                    end: End::Done,
-                    steps: budget,
-                    records: records,
-                };
-            }
-            return Outcome {
-                end: End::Budget,
-                steps: budget,
-                records: records,
-            };
-        }
-        left = left - 1;
+    for step in 0..budget {
         match kind {
             0 => {
                 let w = x.stack[depth];
@@ -113,10 +97,10 @@ fn run(t: &[u16; 8466], u: &mut [u64; 2112], limit: usize, q: &mut [u8], budget:
             1 => {
                 let v = eval::value(t, u, named(t, s, 2));
                 if FAULT <= v {
-                    return stopped(eval::stop_of(v), s, budget - left, records);
+                    return stopped(eval::stop_of(v), s, step + 1, records);
                 }
                 if let Err(h) = steps::assign(t, u, tag, named(t, s, 1), v) {
-                    return stopped(h, s, budget - left, records);
+                    return stopped(h, s, step + 1, records);
                 }
                 let w = x.stack[depth];
                 kind = kind_in(w);
@@ -124,7 +108,7 @@ fn run(t: &[u16; 8466], u: &mut [u64; 2112], limit: usize, q: &mut [u8], budget:
             }
             2 => {
                 if let Err(h) = steps::store(t, u, tag, named(t, s, 1), named(t, s, 2)) {
-                    return stopped(h, s, budget - left, records);
+                    return stopped(h, s, step + 1, records);
                 }
                 let w = x.stack[depth];
                 kind = kind_in(w);
@@ -132,7 +116,7 @@ fn run(t: &[u16; 8466], u: &mut [u64; 2112], limit: usize, q: &mut [u8], budget:
             }
             3 => {
                 if limit <= depth {
-                    return stopped(Stop::Frames, s, budget - left, records);
+                    return stopped(Stop::Frames, s, step + 1, records);
                 }
                 depth = depth + 1;
                 x.stack[depth] = frame_word(NEXT, named(t, s, 2), 0);
@@ -142,10 +126,10 @@ fn run(t: &[u16; 8466], u: &mut [u64; 2112], limit: usize, q: &mut [u8], budget:
             4 => {
                 let v = eval::value(t, u, named(t, s, 1));
                 if FAULT <= v {
-                    return stopped(eval::stop_of(v), s, budget - left, records);
+                    return stopped(eval::stop_of(v), s, step + 1, records);
                 }
                 if limit <= depth {
-                    return stopped(Stop::Frames, s, budget - left, records);
+                    return stopped(Stop::Frames, s, step + 1, records);
                 }
                 depth = depth + 1;
                 x.stack[depth] = frame_word(JOIN, 0, tag);
@@ -161,7 +145,7 @@ fn run(t: &[u16; 8466], u: &mut [u64; 2112], limit: usize, q: &mut [u8], budget:
             5 => {
                 let v = eval::value(t, u, named(t, s, 1));
                 if FAULT <= v {
-                    return stopped(eval::stop_of(v), s, budget - left, records);
+                    return stopped(eval::stop_of(v), s, step + 1, records);
                 }
                 if eval::word_of(v) == 0 {
                     let w = x.stack[depth];
@@ -169,7 +153,7 @@ fn run(t: &[u16; 8466], u: &mut [u64; 2112], limit: usize, q: &mut [u8], budget:
                     s = stmt_in(w);
                 } else {
                     if limit <= depth {
-                        return stopped(Stop::Frames, s, budget - left, records);
+                        return stopped(Stop::Frames, s, step + 1, records);
                     }
                     depth = depth + 1;
                     x.stack[depth] = frame_word(LOOP, s, tag);
@@ -181,15 +165,15 @@ fn run(t: &[u16; 8466], u: &mut [u64; 2112], limit: usize, q: &mut [u8], budget:
             6 => {
                 let v = eval::value(t, u, named(t, s, 1));
                 if FAULT <= v {
-                    return stopped(eval::stop_of(v), s, budget - left, records);
+                    return stopped(eval::stop_of(v), s, step + 1, records);
                 }
                 let port = named(t, s, 2);
                 if !steps::may_emit(t, tag, port, v) {
-                    return stopped(Stop::EmitTag, s, budget - left, records);
+                    return stopped(Stop::EmitTag, s, step + 1, records);
                 }
                 let o = 5 * (records as usize);
                 if q.len() < o + 5 {
-                    return stopped(Stop::Room, s, budget - left, records);
+                    return stopped(Stop::Room, s, step + 1, records);
                 }
                 memory::put_record(q, o, port as u8, eval::word_of(v));
                 records = records + 1;
@@ -211,7 +195,7 @@ fn run(t: &[u16; 8466], u: &mut [u64; 2112], limit: usize, q: &mut [u8], budget:
             9 => {
                 let v = eval::value(t, u, named(t, s, 1));
                 if FAULT <= v {
-                    return stopped(eval::stop_of(v), s, budget - left, records);
+                    return stopped(eval::stop_of(v), s, step + 1, records);
                 }
                 if eval::word_of(v) == 0 {
                     tag = x.stack[depth] % 16;
@@ -228,11 +212,16 @@ fn run(t: &[u16; 8466], u: &mut [u64; 2112], limit: usize, q: &mut [u8], budget:
             _ => {
                 return Outcome {
                     end: End::Done,
-                    steps: budget - left - 1,
+                    steps: step,
                     records: records,
                 };
             }
         }
+    }
+    Outcome {
+        end: if kind == 10 { End::Done } else { End::Budget },
+        steps: budget,
+        records: records,
     }
 }
 

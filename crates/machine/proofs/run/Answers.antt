@@ -1,6 +1,5 @@
 -- What is left to run from the state that the loop holds is the whole run. Assumes nothing.
 use native.Mathlib.Omega.{arith}
-use native.Mathlib.Nat.{pos_of_ne-zero}
 use mathlib.Core.Path.{◌≡◌, refl}
 use Prim.Native.Nat.{◌+◌, ◌-◌}
 use Rattle.rules.specs.Policy.{policy_of}
@@ -9,49 +8,32 @@ use Rattle.layout.specs.Answers.{worth_of}
 use Rattle.steps.proofs.Asked.{value_found, value_fault, tag_found, join_is}
 use Rattle.steps.proofs.Statements.{first_fits, second_fits, third_fits}
 use Rattle.machine.proofs.Frames.{kind_low}
-use Rattle.machine.proofs.Turns.{starts, depth_below, branch_low, held_now, branch_now, done_spent, spent, passes_on, fails_with, pushes_on, full, records_on, no_room, wrote_on, refused, there, asks_now, begun, act_fits, names, port_names, next_on, next_some, join_on, join_some, next_there, done_late, lower, some, loop_there, loop_names, repeats_on, leaves_on, fails_at}
+use Rattle.machine.proofs.Turns.{starts, depth_below, branch_low, held_now, branch_now, done, done_spent, spent, passes_on, fails_with, pushes_on, full, records_on, no_room, wrote_on, refused, there, asks_now, begun, act_fits, names, port_names, next_on, next_some, join_on, join_some, next_there, lower, some, loop_there, loop_names, repeats_on, leaves_on, fails_at}
 use Rattle.machine.proofs.Arms.{worth_tag, worth_word, worth_answer, did_as, chooses_no, chooses_yes, loops_no, loops_yes, tests_no, tests_yes, emits_no, emits_yes, emit_given, emit_on, emit_off}
 use Rattle.machine.proofs.run.Goals as goal
 
-pub loop-left-init : goal.loop-left-init
-loop-left-init c = λ r p a l. starts a c.requires.all_places refl refl (rw l) c.kind_at-kind.ensures
-
-pub returns-then-kind-eq10 : goal.returns-then-kind-eq10
-returns-then-kind-eq10 c = λ r p a l. let g = c.loop-left.invariant r p a l in done_spent g c.if-left-eq0.true (omega (arith, c.if-kind-eq10.true))
-
-pub returns-then-left-eq0 : goal.returns-then-left-eq0
-returns-then-left-eq0 c = λ r p a l. let g = c.loop-left.invariant r p a l in spent g c.if-left-eq0.true c.if-kind-eq10.false
+pub loop-step-init : goal.loop-step-init
+loop-step-init c = λ r p a l. starts a c.requires.all_places refl refl (rw l) c.kind_at-kind.ensures
 
 pub offset_bounds-x-depth : goal.offset_bounds-x-depth
 offset_bounds-x-depth c =
     let pre = c.requires in
-    let loop = c.loop-left in
+    let loop = c.loop-step in
     let g = loop.invariant pre.recipe pre.policy pre.ready pre.limited in
     omega (arith, depth_below g, g.ready.recipe.counts.few_stmts)
 
 pub bounds-x-depth : goal.bounds-x-depth
 bounds-x-depth c =
     let pre = c.requires in
-    let loop = c.loop-left in
+    let loop = c.loop-step in
     let g = loop.invariant pre.recipe pre.policy pre.ready pre.limited in
     omega (arith, depth_below g, g.ready.recipe.counts.few_stmts)
-
-pub loop-left-preserved-in-0 : goal.loop-left-preserved-in-0
-loop-left-preserved-in-0 c =
-    let loop = c.loop-left in
-    let if1 = c.if-left-eq0 in
-    let more = pos_of_ne-zero if1.false in
-    let kind-in = c.kind_in-kind in
-    let stmt-in = c.stmt_in-s in
-    λ r p a l. let g = loop.invariant r p a l in
-    passes_on g more (begun g more (omega arith) c.in-0.is) refl kind-in.ensures stmt-in.ensures
 
 pub named-requires : goal.named-requires
 named-requires c =
     let pre = c.requires in
-    let loop = c.loop-left in
-    let if1 = c.if-left-eq0 in
-    let more = pos_of_ne-zero if1.false in
+    let loop = c.loop-step in
+    let more = c.loop-step-test.true in
     let g = loop.invariant pre.recipe pre.policy pre.ready pre.limited in
     let low = there g more (omega arith) c.in-1.is in
     (omega (arith, low, g.ready.recipe.counts.few_stmts), omega arith, second_fits g.ready low)
@@ -59,26 +41,17 @@ named-requires c =
 pub value-v-requires : goal.value-v-requires
 value-v-requires c =
     let pre = c.requires in
-    let loop = c.loop-left in
-    let if1 = c.if-left-eq0 in
-    let more = pos_of_ne-zero if1.false in
+    let loop = c.loop-step in
+    let more = c.loop-step-test.true in
     let named = c.named in
     let g = loop.invariant pre.recipe pre.policy pre.ready pre.limited in
     let parts = names g more (omega arith) c.in-1.is in
     record { recipe = pre.recipe; policy = pre.policy; ready = g.ready; there = rw named.ensures parts.1 }
 
-pub overflow_sub-budget : goal.overflow_sub-budget
-overflow_sub-budget c =
-    let pre = c.requires in
-    let loop = c.loop-left in
-    let g = loop.invariant pre.recipe pre.policy pre.ready pre.limited in
-    omega (arith, g.few)
-
 pub returns-then-v-ge-FAULT : goal.returns-then-v-ge-FAULT
 returns-then-v-ge-FAULT c =
-    let loop = c.loop-left in
-    let if1 = c.if-left-eq0 in
-    let more = pos_of_ne-zero if1.false in
+    let loop = c.loop-step in
+    let more = c.loop-step-test.true in
     let named = c.named in
     let value = c.value-v in
     let if3 = c.if-v-ge-FAULT in
@@ -93,9 +66,8 @@ returns-then-v-ge-FAULT c =
 pub named-requires-in-1 : goal.named-requires-in-1
 named-requires-in-1 c =
     let pre = c.requires in
-    let loop = c.loop-left in
-    let if1 = c.if-left-eq0 in
-    let more = pos_of_ne-zero if1.false in
+    let loop = c.loop-step in
+    let more = c.loop-step-test.true in
     let g = loop.invariant pre.recipe pre.policy pre.ready pre.limited in
     let low = there g more (omega arith) c.in-1.is in
     (omega (arith, low, g.ready.recipe.counts.few_stmts), omega arith, first_fits g.ready low)
@@ -103,9 +75,8 @@ named-requires-in-1 c =
 pub assign-requires : goal.assign-requires
 assign-requires c =
     let pre = c.requires in
-    let loop = c.loop-left in
-    let if1 = c.if-left-eq0 in
-    let more = pos_of_ne-zero if1.false in
+    let loop = c.loop-step in
+    let more = c.loop-step-test.true in
     let named = c.named in
     let value = c.value-v in
     let if3 = c.if-v-ge-FAULT in
@@ -123,18 +94,10 @@ assign-requires c =
       tagged = tagged;
     }
 
-pub overflow_sub-budget-in-Err : goal.overflow_sub-budget-in-Err
-overflow_sub-budget-in-Err c =
-    let pre = c.requires in
-    let loop = c.loop-left in
-    let g = loop.invariant pre.recipe pre.policy pre.ready pre.limited in
-    omega (arith, g.few)
-
 pub returns-in-Err : goal.returns-in-Err
 returns-in-Err c =
-    let loop = c.loop-left in
-    let if1 = c.if-left-eq0 in
-    let more = pos_of_ne-zero if1.false in
+    let loop = c.loop-step in
+    let more = c.loop-step-test.true in
     let named = c.named in
     let value = c.value-v in
     let if3 = c.if-v-ge-FAULT in
@@ -155,46 +118,22 @@ returns-in-Err c =
 pub offset_bounds-x-depth-in-1 : goal.offset_bounds-x-depth-in-1
 offset_bounds-x-depth-in-1 c =
     let pre = c.requires in
-    let loop = c.loop-left in
+    let loop = c.loop-step in
     let g = loop.invariant pre.recipe pre.policy pre.ready pre.limited in
     omega (arith, depth_below g, g.ready.recipe.counts.few_stmts)
 
 pub bounds-x-depth-in-1 : goal.bounds-x-depth-in-1
 bounds-x-depth-in-1 c =
     let pre = c.requires in
-    let loop = c.loop-left in
+    let loop = c.loop-step in
     let g = loop.invariant pre.recipe pre.policy pre.ready pre.limited in
     omega (arith, depth_below g, g.ready.recipe.counts.few_stmts)
-
-pub loop-left-preserved-in-1 : goal.loop-left-preserved-in-1
-loop-left-preserved-in-1 c =
-    let loop = c.loop-left in
-    let if1 = c.if-left-eq0 in
-    let more = pos_of_ne-zero if1.false in
-    let named = c.named in
-    let value = c.value-v in
-    let if3 = c.if-v-ge-FAULT in
-    let named2 = c.named-in-1 in
-    let assign = c.assign in
-    let kind-in2 = c.kind_in-kind-in-1 in
-    let stmt-in2 = c.stmt_in-s-in-1 in
-    λ r p a l. let g = loop.invariant r p a l in
-    let parts = names g more (omega arith) c.in-1.is in
-    let now = begun g more (omega arith) c.in-1.is in
-    let answer = rw named.ensures at value.ensures in
-    let found = value_found g.ready parts.1 answer if3.false in
-    let tagged = tag_found g.ready parts.1 answer if3.false in
-    wrote_on g more _ now (act_fits g more (omega arith) c.in-1.is)
-    (did_as (policy_of p) (recipe_of r) (held_now g) (branch_now g) _ _ _ _ (worth_of value.result) found
-    (rw named2.ensures at (assign.ensures r p (worth_of value.result) g.ready g.standing.branch (rw named2.ensures parts.0)
-    (worth_tag _ tagged) (worth_word _) (worth_answer _)))) c.in_default-assign.is kind-in2.ensures stmt-in2.ensures
 
 pub named-requires-in-2 : goal.named-requires-in-2
 named-requires-in-2 c =
     let pre = c.requires in
-    let loop = c.loop-left in
-    let if1 = c.if-left-eq0 in
-    let more = pos_of_ne-zero if1.false in
+    let loop = c.loop-step in
+    let more = c.loop-step-test.true in
     let g = loop.invariant pre.recipe pre.policy pre.ready pre.limited in
     let low = there g more (omega arith) c.in-2.is in
     (omega (arith, low, g.ready.recipe.counts.few_stmts), omega arith, first_fits g.ready low)
@@ -202,9 +141,8 @@ named-requires-in-2 c =
 pub named-requires-in-2-2 : goal.named-requires-in-2-2
 named-requires-in-2-2 c =
     let pre = c.requires in
-    let loop = c.loop-left in
-    let if1 = c.if-left-eq0 in
-    let more = pos_of_ne-zero if1.false in
+    let loop = c.loop-step in
+    let more = c.loop-step-test.true in
     let g = loop.invariant pre.recipe pre.policy pre.ready pre.limited in
     let low = there g more (omega arith) c.in-2.is in
     (omega (arith, low, g.ready.recipe.counts.few_stmts), omega arith, second_fits g.ready low)
@@ -212,9 +150,8 @@ named-requires-in-2-2 c =
 pub store-requires : goal.store-requires
 store-requires c =
     let pre = c.requires in
-    let loop = c.loop-left in
-    let if1 = c.if-left-eq0 in
-    let more = pos_of_ne-zero if1.false in
+    let loop = c.loop-step in
+    let more = c.loop-step-test.true in
     let named3 = c.named-in-2 in
     let named4 = c.named-in-2-2 in
     let g = loop.invariant pre.recipe pre.policy pre.ready pre.limited in
@@ -228,18 +165,10 @@ store-requires c =
       value = rw named4.ensures parts.1;
     }
 
-pub overflow_sub-budget-in-Err-store : goal.overflow_sub-budget-in-Err-store
-overflow_sub-budget-in-Err-store c =
-    let pre = c.requires in
-    let loop = c.loop-left in
-    let g = loop.invariant pre.recipe pre.policy pre.ready pre.limited in
-    omega (arith, g.few)
-
 pub returns-in-Err-store : goal.returns-in-Err-store
 returns-in-Err-store c =
-    let loop = c.loop-left in
-    let if1 = c.if-left-eq0 in
-    let more = pos_of_ne-zero if1.false in
+    let loop = c.loop-step in
+    let more = c.loop-step-test.true in
     let named3 = c.named-in-2 in
     let named4 = c.named-in-2-2 in
     let store = c.store in
@@ -254,46 +183,21 @@ returns-in-Err-store c =
 pub offset_bounds-x-depth-in-2 : goal.offset_bounds-x-depth-in-2
 offset_bounds-x-depth-in-2 c =
     let pre = c.requires in
-    let loop = c.loop-left in
+    let loop = c.loop-step in
     let g = loop.invariant pre.recipe pre.policy pre.ready pre.limited in
     omega (arith, depth_below g, g.ready.recipe.counts.few_stmts)
 
 pub bounds-x-depth-in-2 : goal.bounds-x-depth-in-2
 bounds-x-depth-in-2 c =
     let pre = c.requires in
-    let loop = c.loop-left in
+    let loop = c.loop-step in
     let g = loop.invariant pre.recipe pre.policy pre.ready pre.limited in
     omega (arith, depth_below g, g.ready.recipe.counts.few_stmts)
 
-pub loop-left-preserved-in-2 : goal.loop-left-preserved-in-2
-loop-left-preserved-in-2 c =
-    let loop = c.loop-left in
-    let if1 = c.if-left-eq0 in
-    let more = pos_of_ne-zero if1.false in
-    let named3 = c.named-in-2 in
-    let named4 = c.named-in-2-2 in
-    let store = c.store in
-    let kind-in3 = c.kind_in-kind-in-2 in
-    let stmt-in3 = c.stmt_in-s-in-2 in
-    λ r p a l. let g = loop.invariant r p a l in
-    let parts = names g more (omega arith) c.in-2.is in
-    let now = begun g more (omega arith) c.in-2.is in
-    wrote_on g more _ now (act_fits g more (omega arith) c.in-2.is)
-    (rw (named3.ensures, named4.ensures) at (store.ensures r p g.ready g.standing.branch (rw named3.ensures parts.0)
-    (rw named4.ensures parts.1))) c.in_default-store.is kind-in3.ensures stmt-in3.ensures
-
-pub overflow_sub-budget-then-limit-depth : goal.overflow_sub-budget-then-limit-depth
-overflow_sub-budget-then-limit-depth c =
-    let pre = c.requires in
-    let loop = c.loop-left in
-    let g = loop.invariant pre.recipe pre.policy pre.ready pre.limited in
-    omega (arith, g.few)
-
 pub returns-then-limit-depth : goal.returns-then-limit-depth
 returns-then-limit-depth c =
-    let loop = c.loop-left in
-    let if1 = c.if-left-eq0 in
-    let more = pos_of_ne-zero if1.false in
+    let loop = c.loop-step in
+    let more = c.loop-step-test.true in
     let if6 = c.if-limit-depth in
     let stopped4 = c.stopped-then-limit-depth in
     λ r p a l. let g = loop.invariant r p a l in
@@ -302,9 +206,8 @@ returns-then-limit-depth c =
 pub named-requires-in-3 : goal.named-requires-in-3
 named-requires-in-3 c =
     let pre = c.requires in
-    let loop = c.loop-left in
-    let if1 = c.if-left-eq0 in
-    let more = pos_of_ne-zero if1.false in
+    let loop = c.loop-step in
+    let more = c.loop-step-test.true in
     let g = loop.invariant pre.recipe pre.policy pre.ready pre.limited in
     let low = there g more (omega arith) c.in-3.is in
     (omega (arith, low, g.ready.recipe.counts.few_stmts), omega arith, second_fits g.ready low)
@@ -312,9 +215,8 @@ named-requires-in-3 c =
 pub frame_word-requires : goal.frame_word-requires
 frame_word-requires c =
     let pre = c.requires in
-    let loop = c.loop-left in
-    let if1 = c.if-left-eq0 in
-    let more = pos_of_ne-zero if1.false in
+    let loop = c.loop-step in
+    let more = c.loop-step-test.true in
     let named5 = c.named-in-3 in
     let g = loop.invariant pre.recipe pre.policy pre.ready pre.limited in
     let parts = names g more (omega arith) c.in-3.is in
@@ -324,9 +226,8 @@ frame_word-requires c =
 pub named-s-requires : goal.named-s-requires
 named-s-requires c =
     let pre = c.requires in
-    let loop = c.loop-left in
-    let if1 = c.if-left-eq0 in
-    let more = pos_of_ne-zero if1.false in
+    let loop = c.loop-step in
+    let more = c.loop-step-test.true in
     let g = loop.invariant pre.recipe pre.policy pre.ready pre.limited in
     let low = there g more (omega arith) c.in-3.is in
     (omega (arith, low, g.ready.recipe.counts.few_stmts), omega arith, first_fits g.ready low)
@@ -334,9 +235,8 @@ named-s-requires c =
 pub kind_at-kind-requires-in-3 : goal.kind_at-kind-requires-in-3
 kind_at-kind-requires-in-3 c =
     let pre = c.requires in
-    let loop = c.loop-left in
-    let if1 = c.if-left-eq0 in
-    let more = pos_of_ne-zero if1.false in
+    let loop = c.loop-step in
+    let more = c.loop-step-test.true in
     let named6 = c.named-s in
     let g = loop.invariant pre.recipe pre.policy pre.ready pre.limited in
     let parts = names g more (omega arith) c.in-3.is in
@@ -345,26 +245,11 @@ kind_at-kind-requires-in-3 c =
       omega (arith, kind_low g.ready named6.result (rw named6.ensures (lower low parts.0))),
     )
 
-pub loop-left-preserved-in-3 : goal.loop-left-preserved-in-3
-loop-left-preserved-in-3 c =
-    let loop = c.loop-left in
-    let if1 = c.if-left-eq0 in
-    let more = pos_of_ne-zero if1.false in
-    let if6 = c.if-limit-depth in
-    let named5 = c.named-in-3 in
-    let frame-word = c.frame_word in
-    let named6 = c.named-s in
-    let kind-at2 = c.kind_at-kind-in-3 in
-    λ r p a l. let g = loop.invariant r p a l in
-    let now = begun g more (omega arith) c.in-3.is in
-    pushes_on g more now refl (rw l at if6.false) (rw named5.ensures at frame-word.ensures) named6.ensures refl kind-at2.ensures
-
 pub named-requires-in-4 : goal.named-requires-in-4
 named-requires-in-4 c =
     let pre = c.requires in
-    let loop = c.loop-left in
-    let if1 = c.if-left-eq0 in
-    let more = pos_of_ne-zero if1.false in
+    let loop = c.loop-step in
+    let more = c.loop-step-test.true in
     let g = loop.invariant pre.recipe pre.policy pre.ready pre.limited in
     let low = there g more (omega arith) c.in-4.is in
     (omega (arith, low, g.ready.recipe.counts.few_stmts), omega arith, first_fits g.ready low)
@@ -372,26 +257,17 @@ named-requires-in-4 c =
 pub value-v-requires-in-4 : goal.value-v-requires-in-4
 value-v-requires-in-4 c =
     let pre = c.requires in
-    let loop = c.loop-left in
-    let if1 = c.if-left-eq0 in
-    let more = pos_of_ne-zero if1.false in
+    let loop = c.loop-step in
+    let more = c.loop-step-test.true in
     let named7 = c.named-in-4 in
     let g = loop.invariant pre.recipe pre.policy pre.ready pre.limited in
     let parts = names g more (omega arith) c.in-4.is in
     record { recipe = pre.recipe; policy = pre.policy; ready = g.ready; there = rw named7.ensures parts.0 }
 
-pub overflow_sub-budget-then-v-ge-FAULT-2 : goal.overflow_sub-budget-then-v-ge-FAULT-2
-overflow_sub-budget-then-v-ge-FAULT-2 c =
-    let pre = c.requires in
-    let loop = c.loop-left in
-    let g = loop.invariant pre.recipe pre.policy pre.ready pre.limited in
-    omega (arith, g.few)
-
 pub returns-then-v-ge-FAULT-2 : goal.returns-then-v-ge-FAULT-2
 returns-then-v-ge-FAULT-2 c =
-    let loop = c.loop-left in
-    let if1 = c.if-left-eq0 in
-    let more = pos_of_ne-zero if1.false in
+    let loop = c.loop-step in
+    let more = c.loop-step-test.true in
     let named7 = c.named-in-4 in
     let value2 = c.value-v-in-4 in
     let if7 = c.if-v-ge-FAULT-2 in
@@ -403,18 +279,10 @@ returns-then-v-ge-FAULT-2 c =
     rw (stopped5.ensures, stop-of4.ensures) (fails_with g more (omega arith) c.in-4.is
     (rw (value_fault g.ready parts.0 answer if7.true)))
 
-pub overflow_sub-budget-then-limit-depth-2 : goal.overflow_sub-budget-then-limit-depth-2
-overflow_sub-budget-then-limit-depth-2 c =
-    let pre = c.requires in
-    let loop = c.loop-left in
-    let g = loop.invariant pre.recipe pre.policy pre.ready pre.limited in
-    omega (arith, g.few)
-
 pub returns-then-limit-depth-2 : goal.returns-then-limit-depth-2
 returns-then-limit-depth-2 c =
-    let loop = c.loop-left in
-    let if1 = c.if-left-eq0 in
-    let more = pos_of_ne-zero if1.false in
+    let loop = c.loop-step in
+    let more = c.loop-step-test.true in
     let named7 = c.named-in-4 in
     let value2 = c.value-v-in-4 in
     let if7 = c.if-v-ge-FAULT-2 in
@@ -430,16 +298,15 @@ returns-then-limit-depth-2 c =
 pub frame_word-requires-in-4 : goal.frame_word-requires-in-4
 frame_word-requires-in-4 c =
     let pre = c.requires in
-    let loop = c.loop-left in
+    let loop = c.loop-step in
     let g = loop.invariant pre.recipe pre.policy pre.ready pre.limited in
     (omega arith, omega arith, branch_low g)
 
 pub join-tag-requires : goal.join-tag-requires
 join-tag-requires c =
     let pre = c.requires in
-    let loop = c.loop-left in
-    let if1 = c.if-left-eq0 in
-    let more = pos_of_ne-zero if1.false in
+    let loop = c.loop-step in
+    let more = c.loop-step-test.true in
     let named7 = c.named-in-4 in
     let value2 = c.value-v-in-4 in
     let if7 = c.if-v-ge-FAULT-2 in
@@ -453,9 +320,8 @@ join-tag-requires c =
 pub named-s-requires-then-word_of-eq0 : goal.named-s-requires-then-word_of-eq0
 named-s-requires-then-word_of-eq0 c =
     let pre = c.requires in
-    let loop = c.loop-left in
-    let if1 = c.if-left-eq0 in
-    let more = pos_of_ne-zero if1.false in
+    let loop = c.loop-step in
+    let more = c.loop-step-test.true in
     let g = loop.invariant pre.recipe pre.policy pre.ready pre.limited in
     let low = there g more (omega arith) c.in-4.is in
     (omega (arith, low, g.ready.recipe.counts.few_stmts), omega arith, third_fits g.ready low)
@@ -463,9 +329,8 @@ named-s-requires-then-word_of-eq0 c =
 pub kind_at-kind-requires-then-word_of-eq0 : goal.kind_at-kind-requires-then-word_of-eq0
 kind_at-kind-requires-then-word_of-eq0 c =
     let pre = c.requires in
-    let loop = c.loop-left in
-    let if1 = c.if-left-eq0 in
-    let more = pos_of_ne-zero if1.false in
+    let loop = c.loop-step in
+    let more = c.loop-step-test.true in
     let named8 = c.named-s-then-word_of-eq0 in
     let g = loop.invariant pre.recipe pre.policy pre.ready pre.limited in
     let parts = names g more (omega arith) c.in-4.is in
@@ -474,38 +339,11 @@ kind_at-kind-requires-then-word_of-eq0 c =
       omega (arith, kind_low g.ready named8.result (rw named8.ensures (lower low parts.2))),
     )
 
-pub loop-left-preserved-then-word_of-eq0 : goal.loop-left-preserved-then-word_of-eq0
-loop-left-preserved-then-word_of-eq0 c =
-    let loop = c.loop-left in
-    let if1 = c.if-left-eq0 in
-    let more = pos_of_ne-zero if1.false in
-    let named7 = c.named-in-4 in
-    let value2 = c.value-v-in-4 in
-    let if7 = c.if-v-ge-FAULT-2 in
-    let if8 = c.if-limit-depth-2 in
-    let frame-word2 = c.frame_word-in-4 in
-    let tag_of = c.tag_of in
-    let join = c.join-tag in
-    let word_of = c.word_of in
-    let if9 = c.if-word_of-eq0 in
-    let named8 = c.named-s-then-word_of-eq0 in
-    let kind-at3 = c.kind_at-kind-then-word_of-eq0 in
-    λ r p a l. let g = loop.invariant r p a l in
-    let parts = names g more (omega arith) c.in-4.is in
-    let now = begun g more (omega arith) c.in-4.is in
-    let answer = rw named7.ensures at value2.ensures in
-    let found = value_found g.ready parts.0 answer if7.false in
-    let tagged = tag_found g.ready parts.0 answer if7.false in
-    pushes_on g more now (chooses_no (policy_of p) (recipe_of r) (held_now g) (branch_now g) value2.result found word_of.ensures _ _ if9.true)
-    (rw l at if8.false) frame-word2.ensures named8.ensures (join_is g.ready g.standing.branch tagged
-    (rw tag_of.ensures at join.ensures)) kind-at3.ensures
-
 pub named-s-requires-else-word_of-eq0 : goal.named-s-requires-else-word_of-eq0
 named-s-requires-else-word_of-eq0 c =
     let pre = c.requires in
-    let loop = c.loop-left in
-    let if1 = c.if-left-eq0 in
-    let more = pos_of_ne-zero if1.false in
+    let loop = c.loop-step in
+    let more = c.loop-step-test.true in
     let g = loop.invariant pre.recipe pre.policy pre.ready pre.limited in
     let low = there g more (omega arith) c.in-4.is in
     (omega (arith, low, g.ready.recipe.counts.few_stmts), omega arith, second_fits g.ready low)
@@ -513,9 +351,8 @@ named-s-requires-else-word_of-eq0 c =
 pub kind_at-kind-requires-else-word_of-eq0 : goal.kind_at-kind-requires-else-word_of-eq0
 kind_at-kind-requires-else-word_of-eq0 c =
     let pre = c.requires in
-    let loop = c.loop-left in
-    let if1 = c.if-left-eq0 in
-    let more = pos_of_ne-zero if1.false in
+    let loop = c.loop-step in
+    let more = c.loop-step-test.true in
     let named9 = c.named-s-else-word_of-eq0 in
     let g = loop.invariant pre.recipe pre.policy pre.ready pre.limited in
     let parts = names g more (omega arith) c.in-4.is in
@@ -524,38 +361,11 @@ kind_at-kind-requires-else-word_of-eq0 c =
       omega (arith, kind_low g.ready named9.result (rw named9.ensures (lower low parts.1))),
     )
 
-pub loop-left-preserved-else-word_of-eq0 : goal.loop-left-preserved-else-word_of-eq0
-loop-left-preserved-else-word_of-eq0 c =
-    let loop = c.loop-left in
-    let if1 = c.if-left-eq0 in
-    let more = pos_of_ne-zero if1.false in
-    let named7 = c.named-in-4 in
-    let value2 = c.value-v-in-4 in
-    let if7 = c.if-v-ge-FAULT-2 in
-    let if8 = c.if-limit-depth-2 in
-    let frame-word2 = c.frame_word-in-4 in
-    let tag_of = c.tag_of in
-    let join = c.join-tag in
-    let word_of = c.word_of in
-    let if9 = c.if-word_of-eq0 in
-    let named9 = c.named-s-else-word_of-eq0 in
-    let kind-at4 = c.kind_at-kind-else-word_of-eq0 in
-    λ r p a l. let g = loop.invariant r p a l in
-    let parts = names g more (omega arith) c.in-4.is in
-    let now = begun g more (omega arith) c.in-4.is in
-    let answer = rw named7.ensures at value2.ensures in
-    let found = value_found g.ready parts.0 answer if7.false in
-    let tagged = tag_found g.ready parts.0 answer if7.false in
-    pushes_on g more now (chooses_yes (policy_of p) (recipe_of r) (held_now g) (branch_now g) value2.result found word_of.ensures _ _ if9.false)
-    (rw l at if8.false) frame-word2.ensures named9.ensures (join_is g.ready g.standing.branch tagged
-    (rw tag_of.ensures at join.ensures)) kind-at4.ensures
-
 pub named-requires-in-5 : goal.named-requires-in-5
 named-requires-in-5 c =
     let pre = c.requires in
-    let loop = c.loop-left in
-    let if1 = c.if-left-eq0 in
-    let more = pos_of_ne-zero if1.false in
+    let loop = c.loop-step in
+    let more = c.loop-step-test.true in
     let g = loop.invariant pre.recipe pre.policy pre.ready pre.limited in
     let low = there g more (omega arith) c.in-5.is in
     (omega (arith, low, g.ready.recipe.counts.few_stmts), omega arith, first_fits g.ready low)
@@ -563,26 +373,17 @@ named-requires-in-5 c =
 pub value-v-requires-in-5 : goal.value-v-requires-in-5
 value-v-requires-in-5 c =
     let pre = c.requires in
-    let loop = c.loop-left in
-    let if1 = c.if-left-eq0 in
-    let more = pos_of_ne-zero if1.false in
+    let loop = c.loop-step in
+    let more = c.loop-step-test.true in
     let named10 = c.named-in-5 in
     let g = loop.invariant pre.recipe pre.policy pre.ready pre.limited in
     let parts = names g more (omega arith) c.in-5.is in
     record { recipe = pre.recipe; policy = pre.policy; ready = g.ready; there = rw named10.ensures parts.0 }
 
-pub overflow_sub-budget-then-v-ge-FAULT-3 : goal.overflow_sub-budget-then-v-ge-FAULT-3
-overflow_sub-budget-then-v-ge-FAULT-3 c =
-    let pre = c.requires in
-    let loop = c.loop-left in
-    let g = loop.invariant pre.recipe pre.policy pre.ready pre.limited in
-    omega (arith, g.few)
-
 pub returns-then-v-ge-FAULT-3 : goal.returns-then-v-ge-FAULT-3
 returns-then-v-ge-FAULT-3 c =
-    let loop = c.loop-left in
-    let if1 = c.if-left-eq0 in
-    let more = pos_of_ne-zero if1.false in
+    let loop = c.loop-step in
+    let more = c.loop-step-test.true in
     let named10 = c.named-in-5 in
     let value3 = c.value-v-in-5 in
     let if10 = c.if-v-ge-FAULT-3 in
@@ -597,49 +398,21 @@ returns-then-v-ge-FAULT-3 c =
 pub offset_bounds-x-depth-then-word_of-eq0-2 : goal.offset_bounds-x-depth-then-word_of-eq0-2
 offset_bounds-x-depth-then-word_of-eq0-2 c =
     let pre = c.requires in
-    let loop = c.loop-left in
+    let loop = c.loop-step in
     let g = loop.invariant pre.recipe pre.policy pre.ready pre.limited in
     omega (arith, depth_below g, g.ready.recipe.counts.few_stmts)
 
 pub bounds-x-depth-then-word_of-eq0-2 : goal.bounds-x-depth-then-word_of-eq0-2
 bounds-x-depth-then-word_of-eq0-2 c =
     let pre = c.requires in
-    let loop = c.loop-left in
+    let loop = c.loop-step in
     let g = loop.invariant pre.recipe pre.policy pre.ready pre.limited in
     omega (arith, depth_below g, g.ready.recipe.counts.few_stmts)
 
-pub loop-left-preserved-then-word_of-eq0-2 : goal.loop-left-preserved-then-word_of-eq0-2
-loop-left-preserved-then-word_of-eq0-2 c =
-    let loop = c.loop-left in
-    let if1 = c.if-left-eq0 in
-    let more = pos_of_ne-zero if1.false in
-    let named10 = c.named-in-5 in
-    let value3 = c.value-v-in-5 in
-    let if10 = c.if-v-ge-FAULT-3 in
-    let word-of2 = c.word_of-in-5 in
-    let if11 = c.if-word_of-eq0-2 in
-    let kind-in4 = c.kind_in-kind-then-word_of-eq0-2 in
-    let stmt-in4 = c.stmt_in-s-then-word_of-eq0-2 in
-    λ r p a l. let g = loop.invariant r p a l in
-    let parts = names g more (omega arith) c.in-5.is in
-    let now = begun g more (omega arith) c.in-5.is in
-    let answer = rw named10.ensures at value3.ensures in
-    let found = value_found g.ready parts.0 answer if10.false in
-    passes_on g more now (loops_no (policy_of p) (recipe_of r) (held_now g) (branch_now g) value3.result found word-of2.ensures _ _ if11.true)
-    kind-in4.ensures stmt-in4.ensures
-
-pub overflow_sub-budget-then-limit-depth-3 : goal.overflow_sub-budget-then-limit-depth-3
-overflow_sub-budget-then-limit-depth-3 c =
-    let pre = c.requires in
-    let loop = c.loop-left in
-    let g = loop.invariant pre.recipe pre.policy pre.ready pre.limited in
-    omega (arith, g.few)
-
 pub returns-then-limit-depth-3 : goal.returns-then-limit-depth-3
 returns-then-limit-depth-3 c =
-    let loop = c.loop-left in
-    let if1 = c.if-left-eq0 in
-    let more = pos_of_ne-zero if1.false in
+    let loop = c.loop-step in
+    let more = c.loop-step-test.true in
     let named10 = c.named-in-5 in
     let value3 = c.value-v-in-5 in
     let if10 = c.if-v-ge-FAULT-3 in
@@ -658,18 +431,16 @@ returns-then-limit-depth-3 c =
 pub frame_word-requires-else-word_of-eq0-2 : goal.frame_word-requires-else-word_of-eq0-2
 frame_word-requires-else-word_of-eq0-2 c =
     let pre = c.requires in
-    let loop = c.loop-left in
-    let if1 = c.if-left-eq0 in
-    let more = pos_of_ne-zero if1.false in
+    let loop = c.loop-step in
+    let more = c.loop-step-test.true in
     let g = loop.invariant pre.recipe pre.policy pre.ready pre.limited in
     (omega arith, omega (arith, (there g more (omega arith) c.in-5.is), g.ready.recipe.counts.few_stmts), branch_low g)
 
 pub join-tag-requires-else-word_of-eq0-2 : goal.join-tag-requires-else-word_of-eq0-2
 join-tag-requires-else-word_of-eq0-2 c =
     let pre = c.requires in
-    let loop = c.loop-left in
-    let if1 = c.if-left-eq0 in
-    let more = pos_of_ne-zero if1.false in
+    let loop = c.loop-step in
+    let more = c.loop-step-test.true in
     let named10 = c.named-in-5 in
     let value3 = c.value-v-in-5 in
     let if10 = c.if-v-ge-FAULT-3 in
@@ -683,9 +454,8 @@ join-tag-requires-else-word_of-eq0-2 c =
 pub named-s-requires-else-word_of-eq0-2 : goal.named-s-requires-else-word_of-eq0-2
 named-s-requires-else-word_of-eq0-2 c =
     let pre = c.requires in
-    let loop = c.loop-left in
-    let if1 = c.if-left-eq0 in
-    let more = pos_of_ne-zero if1.false in
+    let loop = c.loop-step in
+    let more = c.loop-step-test.true in
     let g = loop.invariant pre.recipe pre.policy pre.ready pre.limited in
     let low = there g more (omega arith) c.in-5.is in
     (omega (arith, low, g.ready.recipe.counts.few_stmts), omega arith, second_fits g.ready low)
@@ -693,9 +463,8 @@ named-s-requires-else-word_of-eq0-2 c =
 pub kind_at-kind-requires-else-word_of-eq0-2 : goal.kind_at-kind-requires-else-word_of-eq0-2
 kind_at-kind-requires-else-word_of-eq0-2 c =
     let pre = c.requires in
-    let loop = c.loop-left in
-    let if1 = c.if-left-eq0 in
-    let more = pos_of_ne-zero if1.false in
+    let loop = c.loop-step in
+    let more = c.loop-step-test.true in
     let named11 = c.named-s-else-word_of-eq0-2 in
     let g = loop.invariant pre.recipe pre.policy pre.ready pre.limited in
     let parts = names g more (omega arith) c.in-5.is in
@@ -704,38 +473,11 @@ kind_at-kind-requires-else-word_of-eq0-2 c =
       omega (arith, kind_low g.ready named11.result (rw named11.ensures (lower low parts.1))),
     )
 
-pub loop-left-preserved-else-word_of-eq0-2 : goal.loop-left-preserved-else-word_of-eq0-2
-loop-left-preserved-else-word_of-eq0-2 c =
-    let loop = c.loop-left in
-    let if1 = c.if-left-eq0 in
-    let more = pos_of_ne-zero if1.false in
-    let named10 = c.named-in-5 in
-    let value3 = c.value-v-in-5 in
-    let if10 = c.if-v-ge-FAULT-3 in
-    let word-of2 = c.word_of-in-5 in
-    let if11 = c.if-word_of-eq0-2 in
-    let if12 = c.if-limit-depth-3 in
-    let frame-word3 = c.frame_word-else-word_of-eq0-2 in
-    let tag-of2 = c.tag_of-else-word_of-eq0-2 in
-    let join2 = c.join-tag-else-word_of-eq0-2 in
-    let named11 = c.named-s-else-word_of-eq0-2 in
-    let kind-at5 = c.kind_at-kind-else-word_of-eq0-2 in
-    λ r p a l. let g = loop.invariant r p a l in
-    let parts = names g more (omega arith) c.in-5.is in
-    let now = begun g more (omega arith) c.in-5.is in
-    let answer = rw named10.ensures at value3.ensures in
-    let found = value_found g.ready parts.0 answer if10.false in
-    let tagged = tag_found g.ready parts.0 answer if10.false in
-    pushes_on g more now (loops_yes (policy_of p) (recipe_of r) (held_now g) (branch_now g) value3.result found word-of2.ensures _ _ if11.false)
-    (rw l at if12.false) frame-word3.ensures named11.ensures
-    (join_is g.ready g.standing.branch tagged (rw tag-of2.ensures at join2.ensures)) kind-at5.ensures
-
 pub named-requires-in-6 : goal.named-requires-in-6
 named-requires-in-6 c =
     let pre = c.requires in
-    let loop = c.loop-left in
-    let if1 = c.if-left-eq0 in
-    let more = pos_of_ne-zero if1.false in
+    let loop = c.loop-step in
+    let more = c.loop-step-test.true in
     let g = loop.invariant pre.recipe pre.policy pre.ready pre.limited in
     let low = there g more (omega arith) c.in-6.is in
     (omega (arith, low, g.ready.recipe.counts.few_stmts), omega arith, first_fits g.ready low)
@@ -743,25 +485,16 @@ named-requires-in-6 c =
 pub value-v-requires-in-6 : goal.value-v-requires-in-6
 value-v-requires-in-6 c =
     let pre = c.requires in
-    let loop = c.loop-left in
-    let if1 = c.if-left-eq0 in
-    let more = pos_of_ne-zero if1.false in
+    let loop = c.loop-step in
+    let more = c.loop-step-test.true in
     let named12 = c.named-in-6 in
     let g = loop.invariant pre.recipe pre.policy pre.ready pre.limited in
     record { recipe = pre.recipe; policy = pre.policy; ready = g.ready; there = rw named12.ensures (names g more (omega arith) c.in-6.is) }
 
-pub overflow_sub-budget-then-v-ge-FAULT-4 : goal.overflow_sub-budget-then-v-ge-FAULT-4
-overflow_sub-budget-then-v-ge-FAULT-4 c =
-    let pre = c.requires in
-    let loop = c.loop-left in
-    let g = loop.invariant pre.recipe pre.policy pre.ready pre.limited in
-    omega (arith, g.few)
-
 pub returns-then-v-ge-FAULT-4 : goal.returns-then-v-ge-FAULT-4
 returns-then-v-ge-FAULT-4 c =
-    let loop = c.loop-left in
-    let if1 = c.if-left-eq0 in
-    let more = pos_of_ne-zero if1.false in
+    let loop = c.loop-step in
+    let more = c.loop-step-test.true in
     let named12 = c.named-in-6 in
     let value4 = c.value-v-in-6 in
     let if13 = c.if-v-ge-FAULT-4 in
@@ -776,9 +509,8 @@ returns-then-v-ge-FAULT-4 c =
 pub named-port-requires : goal.named-port-requires
 named-port-requires c =
     let pre = c.requires in
-    let loop = c.loop-left in
-    let if1 = c.if-left-eq0 in
-    let more = pos_of_ne-zero if1.false in
+    let loop = c.loop-step in
+    let more = c.loop-step-test.true in
     let g = loop.invariant pre.recipe pre.policy pre.ready pre.limited in
     let low = there g more (omega arith) c.in-6.is in
     (omega (arith, low, g.ready.recipe.counts.few_stmts), omega arith, second_fits g.ready low)
@@ -786,9 +518,8 @@ named-port-requires c =
 pub may_emit-requires : goal.may_emit-requires
 may_emit-requires c =
     let pre = c.requires in
-    let loop = c.loop-left in
-    let if1 = c.if-left-eq0 in
-    let more = pos_of_ne-zero if1.false in
+    let loop = c.loop-step in
+    let more = c.loop-step-test.true in
     let named12 = c.named-in-6 in
     let value4 = c.value-v-in-6 in
     let if13 = c.if-v-ge-FAULT-4 in
@@ -799,18 +530,10 @@ may_emit-requires c =
     let tagged = tag_found g.ready parts answer if13.false in
     emit_given g.ready _ g.standing.branch (rw named13.ensures (port_names g more (omega arith) c.in-6.is)) tagged
 
-pub overflow_sub-budget-then-not-may_emit : goal.overflow_sub-budget-then-not-may_emit
-overflow_sub-budget-then-not-may_emit c =
-    let pre = c.requires in
-    let loop = c.loop-left in
-    let g = loop.invariant pre.recipe pre.policy pre.ready pre.limited in
-    omega (arith, g.few)
-
 pub returns-then-not-may_emit : goal.returns-then-not-may_emit
 returns-then-not-may_emit c =
-    let loop = c.loop-left in
-    let if1 = c.if-left-eq0 in
-    let more = pos_of_ne-zero if1.false in
+    let loop = c.loop-step in
+    let more = c.loop-step-test.true in
     let named12 = c.named-in-6 in
     let value4 = c.value-v-in-6 in
     let if13 = c.if-v-ge-FAULT-4 in
@@ -828,18 +551,10 @@ returns-then-not-may_emit c =
     (emit_off g.ready _ g.standing.branch (port_names g more (omega arith) c.in-6.is) tagged
     (rw named13.ensures at may-emit.ensures) if14.true)))
 
-pub overflow_sub-budget-then-q-o : goal.overflow_sub-budget-then-q-o
-overflow_sub-budget-then-q-o c =
-    let pre = c.requires in
-    let loop = c.loop-left in
-    let g = loop.invariant pre.recipe pre.policy pre.ready pre.limited in
-    omega (arith, g.few)
-
 pub returns-then-q-o : goal.returns-then-q-o
 returns-then-q-o c =
-    let loop = c.loop-left in
-    let if1 = c.if-left-eq0 in
-    let more = pos_of_ne-zero if1.false in
+    let loop = c.loop-step in
+    let more = c.loop-step-test.true in
     let named12 = c.named-in-6 in
     let value4 = c.value-v-in-6 in
     let if13 = c.if-v-ge-FAULT-4 in
@@ -861,9 +576,8 @@ returns-then-q-o c =
 pub overflow_cast-port : goal.overflow_cast-port
 overflow_cast-port c =
     let pre = c.requires in
-    let loop = c.loop-left in
-    let if1 = c.if-left-eq0 in
-    let more = pos_of_ne-zero if1.false in
+    let loop = c.loop-step in
+    let more = c.loop-step-test.true in
     let named13 = c.named-port in
     let g = loop.invariant pre.recipe pre.policy pre.ready pre.limited in
     omega (arith, named13.ensures, (port_names g more (omega arith) c.in-6.is), g.ready.policy.few_ports)
@@ -871,135 +585,84 @@ overflow_cast-port c =
 pub overflow_add-records : goal.overflow_add-records
 overflow_add-records c =
     let pre = c.requires in
-    let loop = c.loop-left in
-    let if1 = c.if-left-eq0 in
-    let more = pos_of_ne-zero if1.false in
+    let loop = c.loop-step in
+    let more = c.loop-step-test.true in
     let g = loop.invariant pre.recipe pre.policy pre.ready pre.limited in
     omega (arith, g.few, more)
 
 pub offset_bounds-x-depth-in-6 : goal.offset_bounds-x-depth-in-6
 offset_bounds-x-depth-in-6 c =
     let pre = c.requires in
-    let loop = c.loop-left in
+    let loop = c.loop-step in
     let g = loop.invariant pre.recipe pre.policy pre.ready pre.limited in
     omega (arith, depth_below g, g.ready.recipe.counts.few_stmts)
 
 pub bounds-x-depth-in-6 : goal.bounds-x-depth-in-6
 bounds-x-depth-in-6 c =
     let pre = c.requires in
-    let loop = c.loop-left in
+    let loop = c.loop-step in
     let g = loop.invariant pre.recipe pre.policy pre.ready pre.limited in
     omega (arith, depth_below g, g.ready.recipe.counts.few_stmts)
-
-pub loop-left-preserved-in-6 : goal.loop-left-preserved-in-6
-loop-left-preserved-in-6 c =
-    let loop = c.loop-left in
-    let if1 = c.if-left-eq0 in
-    let more = pos_of_ne-zero if1.false in
-    let named12 = c.named-in-6 in
-    let value4 = c.value-v-in-6 in
-    let if13 = c.if-v-ge-FAULT-4 in
-    let named13 = c.named-port in
-    let may-emit = c.may_emit in
-    let if14 = c.if-not-may_emit in
-    let if15 = c.if-q-o in
-    let word-of3 = c.word_of-in-6 in
-    let put_record = c.put_record in
-    let kind-in5 = c.kind_in-kind-in-6 in
-    let stmt-in5 = c.stmt_in-s-in-6 in
-    λ r p a l. let g = loop.invariant r p a l in
-    let parts = names g more (omega arith) c.in-6.is in
-    let now = begun g more (omega arith) c.in-6.is in
-    let answer = rw named12.ensures at value4.ensures in
-    let found = value_found g.ready parts answer if13.false in
-    let tagged = tag_found g.ready parts answer if13.false in
-    rw (put_record.ensures, named13.ensures) (records_on g more now
-    (emits_yes (policy_of p) (recipe_of r) (held_now g) (branch_now g) value4.result found word-of3.ensures _
-    (emit_on g.ready _ g.standing.branch (port_names g more (omega arith) c.in-6.is) tagged (rw named13.ensures at may-emit.ensures)
-    if14.false)) (omega (arith, g.same_room, if15.false)) kind-in5.ensures stmt-in5.ensures)
 
 pub overflow_sub-depth : goal.overflow_sub-depth
 overflow_sub-depth c =
     let pre = c.requires in
-    let loop = c.loop-left in
-    let if1 = c.if-left-eq0 in
-    let more = pos_of_ne-zero if1.false in
+    let loop = c.loop-step in
+    let more = c.loop-step-test.true in
     let g = loop.invariant pre.recipe pre.policy pre.ready pre.limited in
     omega (arith, next_some g more c.in-7.is)
 
 pub kind_at-kind-requires-in-7 : goal.kind_at-kind-requires-in-7
 kind_at-kind-requires-in-7 c =
     let pre = c.requires in
-    let loop = c.loop-left in
-    let if1 = c.if-left-eq0 in
-    let more = pos_of_ne-zero if1.false in
+    let loop = c.loop-step in
+    let more = c.loop-step-test.true in
     let g = loop.invariant pre.recipe pre.policy pre.ready pre.limited in (
       omega (arith, next_there g more c.in-7.is, g.ready.recipe.counts.few_stmts),
       omega (arith, kind_low g.ready _ (next_there g more c.in-7.is)),
     )
 
-pub loop-left-preserved-in-7 : goal.loop-left-preserved-in-7
-loop-left-preserved-in-7 c =
-    let loop = c.loop-left in
-    let if1 = c.if-left-eq0 in
-    let more = pos_of_ne-zero if1.false in
-    let kind-at6 = c.kind_at-kind-in-7 in
-    λ r p a l. let g = loop.invariant r p a l in
-    next_on g more c.in-7.is kind-at6.ensures
-
 pub offset_bounds-x-depth-in-8 : goal.offset_bounds-x-depth-in-8
 offset_bounds-x-depth-in-8 c =
     let pre = c.requires in
-    let loop = c.loop-left in
+    let loop = c.loop-step in
     let g = loop.invariant pre.recipe pre.policy pre.ready pre.limited in
     omega (arith, depth_below g, g.ready.recipe.counts.few_stmts)
 
 pub bounds-x-depth-in-8 : goal.bounds-x-depth-in-8
 bounds-x-depth-in-8 c =
     let pre = c.requires in
-    let loop = c.loop-left in
+    let loop = c.loop-step in
     let g = loop.invariant pre.recipe pre.policy pre.ready pre.limited in
     omega (arith, depth_below g, g.ready.recipe.counts.few_stmts)
 
 pub overflow_sub-depth-in-8 : goal.overflow_sub-depth-in-8
 overflow_sub-depth-in-8 c =
     let pre = c.requires in
-    let loop = c.loop-left in
-    let if1 = c.if-left-eq0 in
-    let more = pos_of_ne-zero if1.false in
+    let loop = c.loop-step in
+    let more = c.loop-step-test.true in
     let g = loop.invariant pre.recipe pre.policy pre.ready pre.limited in
     omega (arith, join_some g more c.in-8.is)
 
 pub offset_bounds-x-depth-in-8-2 : goal.offset_bounds-x-depth-in-8-2
 offset_bounds-x-depth-in-8-2 c =
     let pre = c.requires in
-    let loop = c.loop-left in
+    let loop = c.loop-step in
     let g = loop.invariant pre.recipe pre.policy pre.ready pre.limited in
     omega (arith, depth_below g, g.ready.recipe.counts.few_stmts)
 
 pub bounds-x-depth-in-8-2 : goal.bounds-x-depth-in-8-2
 bounds-x-depth-in-8-2 c =
     let pre = c.requires in
-    let loop = c.loop-left in
+    let loop = c.loop-step in
     let g = loop.invariant pre.recipe pre.policy pre.ready pre.limited in
     omega (arith, depth_below g, g.ready.recipe.counts.few_stmts)
-
-pub loop-left-preserved-in-8 : goal.loop-left-preserved-in-8
-loop-left-preserved-in-8 c =
-    let loop = c.loop-left in
-    let if1 = c.if-left-eq0 in
-    let more = pos_of_ne-zero if1.false in
-    let kind-in6 = c.kind_in-kind-in-8 in
-    let stmt-in6 = c.stmt_in-s-in-8 in
-    λ r p a l. let g = loop.invariant r p a l in
-    join_on g more c.in-8.is refl kind-in6.ensures stmt-in6.ensures
 
 pub named-requires-in-9 : goal.named-requires-in-9
 named-requires-in-9 c =
     let pre = c.requires in
-    let loop = c.loop-left in
-    let if1 = c.if-left-eq0 in
-    let more = pos_of_ne-zero if1.false in
+    let loop = c.loop-step in
+    let more = c.loop-step-test.true in
     let g = loop.invariant pre.recipe pre.policy pre.ready pre.limited in (
       omega (arith, (loop_there g more c.in-9.is), g.ready.recipe.counts.few_stmts),
       omega arith,
@@ -1010,25 +673,16 @@ named-requires-in-9 c =
 pub value-v-requires-in-9 : goal.value-v-requires-in-9
 value-v-requires-in-9 c =
     let pre = c.requires in
-    let loop = c.loop-left in
-    let if1 = c.if-left-eq0 in
-    let more = pos_of_ne-zero if1.false in
+    let loop = c.loop-step in
+    let more = c.loop-step-test.true in
     let named14 = c.named-in-9 in
     let g = loop.invariant pre.recipe pre.policy pre.ready pre.limited in
     record { recipe = pre.recipe; policy = pre.policy; ready = g.ready; there = rw named14.ensures (loop_names g more c.in-9.is).0 }
 
-pub overflow_sub-budget-then-v-ge-FAULT-5 : goal.overflow_sub-budget-then-v-ge-FAULT-5
-overflow_sub-budget-then-v-ge-FAULT-5 c =
-    let pre = c.requires in
-    let loop = c.loop-left in
-    let g = loop.invariant pre.recipe pre.policy pre.ready pre.limited in
-    omega (arith, g.few)
-
 pub returns-then-v-ge-FAULT-5 : goal.returns-then-v-ge-FAULT-5
 returns-then-v-ge-FAULT-5 c =
-    let loop = c.loop-left in
-    let if1 = c.if-left-eq0 in
-    let more = pos_of_ne-zero if1.false in
+    let loop = c.loop-step in
+    let more = c.loop-step-test.true in
     let named14 = c.named-in-9 in
     let value5 = c.value-v-in-9 in
     let if16 = c.if-v-ge-FAULT-5 in
@@ -1042,65 +696,44 @@ returns-then-v-ge-FAULT-5 c =
 pub offset_bounds-x-depth-then-word_of-eq0-3 : goal.offset_bounds-x-depth-then-word_of-eq0-3
 offset_bounds-x-depth-then-word_of-eq0-3 c =
     let pre = c.requires in
-    let loop = c.loop-left in
+    let loop = c.loop-step in
     let g = loop.invariant pre.recipe pre.policy pre.ready pre.limited in
     omega (arith, depth_below g, g.ready.recipe.counts.few_stmts)
 
 pub bounds-x-depth-then-word_of-eq0-3 : goal.bounds-x-depth-then-word_of-eq0-3
 bounds-x-depth-then-word_of-eq0-3 c =
     let pre = c.requires in
-    let loop = c.loop-left in
+    let loop = c.loop-step in
     let g = loop.invariant pre.recipe pre.policy pre.ready pre.limited in
     omega (arith, depth_below g, g.ready.recipe.counts.few_stmts)
 
 pub overflow_sub-depth-then-word_of-eq0-3 : goal.overflow_sub-depth-then-word_of-eq0-3
 overflow_sub-depth-then-word_of-eq0-3 c =
     let pre = c.requires in
-    let loop = c.loop-left in
-    let if1 = c.if-left-eq0 in
-    let more = pos_of_ne-zero if1.false in
+    let loop = c.loop-step in
+    let more = c.loop-step-test.true in
     let g = loop.invariant pre.recipe pre.policy pre.ready pre.limited in
     omega (arith, some g more c.in-9.is)
 
 pub offset_bounds-x-depth-then-word_of-eq0-3-2 : goal.offset_bounds-x-depth-then-word_of-eq0-3-2
 offset_bounds-x-depth-then-word_of-eq0-3-2 c =
     let pre = c.requires in
-    let loop = c.loop-left in
+    let loop = c.loop-step in
     let g = loop.invariant pre.recipe pre.policy pre.ready pre.limited in
     omega (arith, depth_below g, g.ready.recipe.counts.few_stmts)
 
 pub bounds-x-depth-then-word_of-eq0-3-2 : goal.bounds-x-depth-then-word_of-eq0-3-2
 bounds-x-depth-then-word_of-eq0-3-2 c =
     let pre = c.requires in
-    let loop = c.loop-left in
+    let loop = c.loop-step in
     let g = loop.invariant pre.recipe pre.policy pre.ready pre.limited in
     omega (arith, depth_below g, g.ready.recipe.counts.few_stmts)
-
-pub loop-left-preserved-then-word_of-eq0-3 : goal.loop-left-preserved-then-word_of-eq0-3
-loop-left-preserved-then-word_of-eq0-3 c =
-    let loop = c.loop-left in
-    let if1 = c.if-left-eq0 in
-    let more = pos_of_ne-zero if1.false in
-    let named14 = c.named-in-9 in
-    let value5 = c.value-v-in-9 in
-    let if16 = c.if-v-ge-FAULT-5 in
-    let word-of4 = c.word_of-in-9 in
-    let if17 = c.if-word_of-eq0-3 in
-    let kind-in7 = c.kind_in-kind-then-word_of-eq0-3 in
-    let stmt-in7 = c.stmt_in-s-then-word_of-eq0-3 in
-    λ r p a l. let g = loop.invariant r p a l in
-    let parts = loop_names g more c.in-9.is in
-    let answer = rw named14.ensures at value5.ensures in
-    let found = value_found g.ready parts.0 answer if16.false in
-    leaves_on g more c.in-9.is (tests_no (policy_of p) (recipe_of r) (held_now g) (branch_now g) value5.result found word-of4.ensures _
-    if17.true) refl kind-in7.ensures stmt-in7.ensures
 
 pub join-tag-requires-else-word_of-eq0-3 : goal.join-tag-requires-else-word_of-eq0-3
 join-tag-requires-else-word_of-eq0-3 c =
     let pre = c.requires in
-    let loop = c.loop-left in
-    let if1 = c.if-left-eq0 in
-    let more = pos_of_ne-zero if1.false in
+    let loop = c.loop-step in
+    let more = c.loop-step-test.true in
     let named14 = c.named-in-9 in
     let value5 = c.value-v-in-9 in
     let if16 = c.if-v-ge-FAULT-5 in
@@ -1114,9 +747,8 @@ join-tag-requires-else-word_of-eq0-3 c =
 pub named-s-requires-else-word_of-eq0-3 : goal.named-s-requires-else-word_of-eq0-3
 named-s-requires-else-word_of-eq0-3 c =
     let pre = c.requires in
-    let loop = c.loop-left in
-    let if1 = c.if-left-eq0 in
-    let more = pos_of_ne-zero if1.false in
+    let loop = c.loop-step in
+    let more = c.loop-step-test.true in
     let g = loop.invariant pre.recipe pre.policy pre.ready pre.limited in (
       omega (arith, (loop_there g more c.in-9.is), g.ready.recipe.counts.few_stmts),
       omega arith,
@@ -1127,9 +759,8 @@ named-s-requires-else-word_of-eq0-3 c =
 pub kind_at-kind-requires-else-word_of-eq0-3 : goal.kind_at-kind-requires-else-word_of-eq0-3
 kind_at-kind-requires-else-word_of-eq0-3 c =
     let pre = c.requires in
-    let loop = c.loop-left in
-    let if1 = c.if-left-eq0 in
-    let more = pos_of_ne-zero if1.false in
+    let loop = c.loop-step in
+    let more = c.loop-step-test.true in
     let named15 = c.named-s-else-word_of-eq0-3 in
     let g = loop.invariant pre.recipe pre.policy pre.ready pre.limited in
     let parts = loop_names g more c.in-9.is in (
@@ -1137,48 +768,251 @@ kind_at-kind-requires-else-word_of-eq0-3 c =
       omega (arith, kind_low g.ready named15.result (rw named15.ensures (lower (loop_there g more c.in-9.is) parts.1))),
     )
 
-pub loop-left-preserved : goal.loop-left-preserved
-loop-left-preserved c =
-    let loop = c.loop-left in
-    let if1 = c.if-left-eq0 in
-    let more = pos_of_ne-zero if1.false in
-    let named14 = c.named-in-9 in
-    let value5 = c.value-v-in-9 in
-    let if16 = c.if-v-ge-FAULT-5 in
-    let word-of4 = c.word_of-in-9 in
-    let if17 = c.if-word_of-eq0-3 in
-    let tag-of3 = c.tag_of-else-word_of-eq0-3 in
-    let join3 = c.join-tag-else-word_of-eq0-3 in
-    let named15 = c.named-s-else-word_of-eq0-3 in
-    let kind-at7 = c.kind_at-kind-else-word_of-eq0-3 in
-    λ r p a l. let g = loop.invariant r p a l in
-    let parts = loop_names g more c.in-9.is in
-    let answer = rw named14.ensures at value5.ensures in
-    let found = value_found g.ready parts.0 answer if16.false in
-    let tagged = tag_found g.ready parts.0 answer if16.false in
-    repeats_on g more c.in-9.is (tests_yes (policy_of p) (recipe_of r) (held_now g) (branch_now g) value5.result found word-of4.ensures _
-    if17.false) named15.ensures (join_is g.ready g.standing.branch tagged (rw tag-of3.ensures at join3.ensures)) kind-at7.ensures
-
-pub overflow_sub-result : goal.overflow_sub-result
-overflow_sub-result c =
-    let pre = c.requires in
-    let loop = c.loop-left in
-    let g = loop.invariant pre.recipe pre.policy pre.ready pre.limited in
-    omega (arith, g.few)
-
-pub overflow_sub-result-in_default : goal.overflow_sub-result-in_default
-overflow_sub-result-in_default c =
-    let pre = c.requires in
-    let loop = c.loop-left in
-    let if1 = c.if-left-eq0 in
-    let more = pos_of_ne-zero if1.false in
-    let g = loop.invariant pre.recipe pre.policy pre.ready pre.limited in
-    omega (arith, g.few, more)
-
 pub returns-in_default : goal.returns-in_default
-returns-in_default c =
-    let loop = c.loop-left in
-    let if1 = c.if-left-eq0 in
-    let more = pos_of_ne-zero if1.false in
-    λ r p a l. let g = loop.invariant r p a l in
-    done_late g more (omega arith)
+returns-in_default c = λ r p a l. done (c.loop-step.invariant r p a l) (omega arith)
+
+pub loop-step-preserved : goal.loop-step-preserved
+loop-step-preserved c = elim c.match-kind.branch [
+  | goal.in-0 w ↦
+      let loop = c.loop-step in
+      let more = c.loop-step-test.true in
+      let kind-in = w.kind_in-kind in
+      let stmt-in = w.stmt_in-s in
+      λ r p a l.
+      rw (w.u-is, w.q-is, w.x-is, w.depth-is, w.s-is, w.kind-is, w.tag-is, w.records-is)
+      (let g = loop.invariant r p a l in
+      passes_on g more (begun g more (omega arith) w.in-0.is) refl kind-in.ensures stmt-in.ensures)
+  | goal.in-1+else-v-ge-FAULT+in_default-assign w ↦
+      let loop = c.loop-step in
+      let more = c.loop-step-test.true in
+      let named = w.named in
+      let value = w.value-v in
+      let if3 = w.if-v-ge-FAULT in
+      let named2 = w.named-in-1 in
+      let assign = w.assign in
+      let kind-in2 = w.kind_in-kind-in-1 in
+      let stmt-in2 = w.stmt_in-s-in-1 in
+      λ r p a l.
+      rw (w.u-is, w.q-is, w.x-is, w.depth-is, w.s-is, w.kind-is, w.tag-is, w.records-is)
+      (let g = loop.invariant r p a l in
+      let parts = names g more (omega arith) w.in-1.is in
+      let now = begun g more (omega arith) w.in-1.is in
+      let answer = rw named.ensures at value.ensures in
+      let found = value_found g.ready parts.1 answer if3.false in
+      let tagged = tag_found g.ready parts.1 answer if3.false in
+      wrote_on g more _ now (act_fits g more (omega arith) w.in-1.is)
+      (did_as (policy_of p) (recipe_of r) (held_now g) (branch_now g) _ _ _ _ (worth_of value.result) found
+      (rw named2.ensures at (assign.ensures r p (worth_of value.result) g.ready g.standing.branch (rw named2.ensures parts.0)
+      (worth_tag _ tagged) (worth_word _) (worth_answer _)))) w.in_default-assign.is kind-in2.ensures stmt-in2.ensures)
+  | goal.in-2+in_default-store w ↦
+      let loop = c.loop-step in
+      let more = c.loop-step-test.true in
+      let named3 = w.named-in-2 in
+      let named4 = w.named-in-2-2 in
+      let store = w.store in
+      let kind-in3 = w.kind_in-kind-in-2 in
+      let stmt-in3 = w.stmt_in-s-in-2 in
+      λ r p a l.
+      rw (w.u-is, w.q-is, w.x-is, w.depth-is, w.s-is, w.kind-is, w.tag-is, w.records-is)
+      (let g = loop.invariant r p a l in
+      let parts = names g more (omega arith) w.in-2.is in
+      let now = begun g more (omega arith) w.in-2.is in
+      wrote_on g more _ now (act_fits g more (omega arith) w.in-2.is)
+      (rw (named3.ensures, named4.ensures) at (store.ensures r p g.ready g.standing.branch (rw named3.ensures parts.0)
+      (rw named4.ensures parts.1))) w.in_default-store.is kind-in3.ensures stmt-in3.ensures)
+  | goal.in-3+else-limit-depth w ↦
+      let loop = c.loop-step in
+      let more = c.loop-step-test.true in
+      let if6 = w.if-limit-depth in
+      let named5 = w.named-in-3 in
+      let frame-word = w.frame_word in
+      let named6 = w.named-s in
+      let kind-at2 = w.kind_at-kind-in-3 in
+      λ r p a l.
+      rw (w.u-is, w.q-is, w.x-is, w.depth-is, w.s-is, w.kind-is, w.tag-is, w.records-is)
+      (let g = loop.invariant r p a l in
+      let now = begun g more (omega arith) w.in-3.is in
+      pushes_on g more now refl (rw l at if6.false) (rw named5.ensures at frame-word.ensures) named6.ensures refl kind-at2.ensures)
+  | goal.in-4+else-v-ge-FAULT-2+else-limit-depth-2+then-word_of-eq0 w ↦
+      let loop = c.loop-step in
+      let more = c.loop-step-test.true in
+      let named7 = w.named-in-4 in
+      let value2 = w.value-v-in-4 in
+      let if7 = w.if-v-ge-FAULT-2 in
+      let if8 = w.if-limit-depth-2 in
+      let frame-word2 = w.frame_word-in-4 in
+      let tag_of = w.tag_of in
+      let join = w.join-tag in
+      let word_of = w.word_of in
+      let if9 = w.if-word_of-eq0 in
+      let named8 = w.named-s-then-word_of-eq0 in
+      let kind-at3 = w.kind_at-kind-then-word_of-eq0 in
+      λ r p a l.
+      rw (w.u-is, w.q-is, w.x-is, w.depth-is, w.s-is, w.kind-is, w.tag-is, w.records-is)
+      (let g = loop.invariant r p a l in
+      let parts = names g more (omega arith) w.in-4.is in
+      let now = begun g more (omega arith) w.in-4.is in
+      let answer = rw named7.ensures at value2.ensures in
+      let found = value_found g.ready parts.0 answer if7.false in
+      let tagged = tag_found g.ready parts.0 answer if7.false in
+      pushes_on g more now (chooses_no (policy_of p) (recipe_of r) (held_now g) (branch_now g) value2.result found word_of.ensures _ _ if9.true)
+      (rw l at if8.false) frame-word2.ensures named8.ensures (join_is g.ready g.standing.branch tagged
+      (rw tag_of.ensures at join.ensures)) kind-at3.ensures)
+  | goal.in-4+else-v-ge-FAULT-2+else-limit-depth-2+else-word_of-eq0 w ↦
+      let loop = c.loop-step in
+      let more = c.loop-step-test.true in
+      let named7 = w.named-in-4 in
+      let value2 = w.value-v-in-4 in
+      let if7 = w.if-v-ge-FAULT-2 in
+      let if8 = w.if-limit-depth-2 in
+      let frame-word2 = w.frame_word-in-4 in
+      let tag_of = w.tag_of in
+      let join = w.join-tag in
+      let word_of = w.word_of in
+      let if9 = w.if-word_of-eq0 in
+      let named9 = w.named-s-else-word_of-eq0 in
+      let kind-at4 = w.kind_at-kind-else-word_of-eq0 in
+      λ r p a l.
+      rw (w.u-is, w.q-is, w.x-is, w.depth-is, w.s-is, w.kind-is, w.tag-is, w.records-is)
+      (let g = loop.invariant r p a l in
+      let parts = names g more (omega arith) w.in-4.is in
+      let now = begun g more (omega arith) w.in-4.is in
+      let answer = rw named7.ensures at value2.ensures in
+      let found = value_found g.ready parts.0 answer if7.false in
+      let tagged = tag_found g.ready parts.0 answer if7.false in
+      pushes_on g more now (chooses_yes (policy_of p) (recipe_of r) (held_now g) (branch_now g) value2.result found word_of.ensures _ _ if9.false)
+      (rw l at if8.false) frame-word2.ensures named9.ensures (join_is g.ready g.standing.branch tagged
+      (rw tag_of.ensures at join.ensures)) kind-at4.ensures)
+  | goal.in-5+else-v-ge-FAULT-3+then-word_of-eq0-2 w ↦
+      let loop = c.loop-step in
+      let more = c.loop-step-test.true in
+      let named10 = w.named-in-5 in
+      let value3 = w.value-v-in-5 in
+      let if10 = w.if-v-ge-FAULT-3 in
+      let word-of2 = w.word_of-in-5 in
+      let if11 = w.if-word_of-eq0-2 in
+      let kind-in4 = w.kind_in-kind-then-word_of-eq0-2 in
+      let stmt-in4 = w.stmt_in-s-then-word_of-eq0-2 in
+      λ r p a l.
+      rw (w.u-is, w.q-is, w.x-is, w.depth-is, w.s-is, w.kind-is, w.tag-is, w.records-is)
+      (let g = loop.invariant r p a l in
+      let parts = names g more (omega arith) w.in-5.is in
+      let now = begun g more (omega arith) w.in-5.is in
+      let answer = rw named10.ensures at value3.ensures in
+      let found = value_found g.ready parts.0 answer if10.false in
+      passes_on g more now (loops_no (policy_of p) (recipe_of r) (held_now g) (branch_now g) value3.result found word-of2.ensures _ _ if11.true)
+      kind-in4.ensures stmt-in4.ensures)
+  | goal.in-5+else-v-ge-FAULT-3+else-word_of-eq0-2+else-limit-depth-3 w ↦
+      let loop = c.loop-step in
+      let more = c.loop-step-test.true in
+      let named10 = w.named-in-5 in
+      let value3 = w.value-v-in-5 in
+      let if10 = w.if-v-ge-FAULT-3 in
+      let word-of2 = w.word_of-in-5 in
+      let if11 = w.if-word_of-eq0-2 in
+      let if12 = w.if-limit-depth-3 in
+      let frame-word3 = w.frame_word-else-word_of-eq0-2 in
+      let tag-of2 = w.tag_of-else-word_of-eq0-2 in
+      let join2 = w.join-tag-else-word_of-eq0-2 in
+      let named11 = w.named-s-else-word_of-eq0-2 in
+      let kind-at5 = w.kind_at-kind-else-word_of-eq0-2 in
+      λ r p a l.
+      rw (w.u-is, w.q-is, w.x-is, w.depth-is, w.s-is, w.kind-is, w.tag-is, w.records-is)
+      (let g = loop.invariant r p a l in
+      let parts = names g more (omega arith) w.in-5.is in
+      let now = begun g more (omega arith) w.in-5.is in
+      let answer = rw named10.ensures at value3.ensures in
+      let found = value_found g.ready parts.0 answer if10.false in
+      let tagged = tag_found g.ready parts.0 answer if10.false in
+      pushes_on g more now (loops_yes (policy_of p) (recipe_of r) (held_now g) (branch_now g) value3.result found word-of2.ensures _ _ if11.false)
+      (rw l at if12.false) frame-word3.ensures named11.ensures
+      (join_is g.ready g.standing.branch tagged (rw tag-of2.ensures at join2.ensures)) kind-at5.ensures)
+  | goal.in-6+else-v-ge-FAULT-4+else-not-may_emit+else-q-o w ↦
+      let loop = c.loop-step in
+      let more = c.loop-step-test.true in
+      let named12 = w.named-in-6 in
+      let value4 = w.value-v-in-6 in
+      let if13 = w.if-v-ge-FAULT-4 in
+      let named13 = w.named-port in
+      let may-emit = w.may_emit in
+      let if14 = w.if-not-may_emit in
+      let if15 = w.if-q-o in
+      let word-of3 = w.word_of-in-6 in
+      let put_record = w.put_record in
+      let kind-in5 = w.kind_in-kind-in-6 in
+      let stmt-in5 = w.stmt_in-s-in-6 in
+      λ r p a l.
+      rw (w.u-is, w.q-is, w.x-is, w.depth-is, w.s-is, w.kind-is, w.tag-is, w.records-is)
+      (let g = loop.invariant r p a l in
+      let parts = names g more (omega arith) w.in-6.is in
+      let now = begun g more (omega arith) w.in-6.is in
+      let answer = rw named12.ensures at value4.ensures in
+      let found = value_found g.ready parts answer if13.false in
+      let tagged = tag_found g.ready parts answer if13.false in
+      rw (put_record.ensures, named13.ensures) (records_on g more now
+      (emits_yes (policy_of p) (recipe_of r) (held_now g) (branch_now g) value4.result found word-of3.ensures _
+      (emit_on g.ready _ g.standing.branch (port_names g more (omega arith) w.in-6.is) tagged (rw named13.ensures at may-emit.ensures)
+      if14.false)) (omega (arith, g.same_room, if15.false)) kind-in5.ensures stmt-in5.ensures))
+  | goal.in-7 w ↦
+      let loop = c.loop-step in
+      let more = c.loop-step-test.true in
+      let kind-at6 = w.kind_at-kind-in-7 in
+      λ r p a l.
+      rw (w.u-is, w.q-is, w.x-is, w.depth-is, w.s-is, w.kind-is, w.tag-is, w.records-is)
+      (let g = loop.invariant r p a l in
+      next_on g more w.in-7.is kind-at6.ensures)
+  | goal.in-8 w ↦
+      let loop = c.loop-step in
+      let more = c.loop-step-test.true in
+      let kind-in6 = w.kind_in-kind-in-8 in
+      let stmt-in6 = w.stmt_in-s-in-8 in
+      λ r p a l.
+      rw (w.u-is, w.q-is, w.x-is, w.depth-is, w.s-is, w.kind-is, w.tag-is, w.records-is)
+      (let g = loop.invariant r p a l in
+      join_on g more w.in-8.is refl kind-in6.ensures stmt-in6.ensures)
+  | goal.in-9+else-v-ge-FAULT-5+then-word_of-eq0-3 w ↦
+      let loop = c.loop-step in
+      let more = c.loop-step-test.true in
+      let named14 = w.named-in-9 in
+      let value5 = w.value-v-in-9 in
+      let if16 = w.if-v-ge-FAULT-5 in
+      let word-of4 = w.word_of-in-9 in
+      let if17 = w.if-word_of-eq0-3 in
+      let kind-in7 = w.kind_in-kind-then-word_of-eq0-3 in
+      let stmt-in7 = w.stmt_in-s-then-word_of-eq0-3 in
+      λ r p a l.
+      rw (w.u-is, w.q-is, w.x-is, w.depth-is, w.s-is, w.kind-is, w.tag-is, w.records-is)
+      (let g = loop.invariant r p a l in
+      let parts = loop_names g more w.in-9.is in
+      let answer = rw named14.ensures at value5.ensures in
+      let found = value_found g.ready parts.0 answer if16.false in
+      leaves_on g more w.in-9.is (tests_no (policy_of p) (recipe_of r) (held_now g) (branch_now g) value5.result found word-of4.ensures _
+      if17.true) refl kind-in7.ensures stmt-in7.ensures)
+  | goal.in-9+else-v-ge-FAULT-5+else-word_of-eq0-3 w ↦
+      let loop = c.loop-step in
+      let more = c.loop-step-test.true in
+      let named14 = w.named-in-9 in
+      let value5 = w.value-v-in-9 in
+      let if16 = w.if-v-ge-FAULT-5 in
+      let word-of4 = w.word_of-in-9 in
+      let if17 = w.if-word_of-eq0-3 in
+      let tag-of3 = w.tag_of-else-word_of-eq0-3 in
+      let join3 = w.join-tag-else-word_of-eq0-3 in
+      let named15 = w.named-s-else-word_of-eq0-3 in
+      let kind-at7 = w.kind_at-kind-else-word_of-eq0-3 in
+      λ r p a l.
+      rw (w.u-is, w.q-is, w.x-is, w.depth-is, w.s-is, w.kind-is, w.tag-is, w.records-is)
+      (let g = loop.invariant r p a l in
+      let parts = loop_names g more w.in-9.is in
+      let answer = rw named14.ensures at value5.ensures in
+      let found = value_found g.ready parts.0 answer if16.false in
+      let tagged = tag_found g.ready parts.0 answer if16.false in
+      repeats_on g more w.in-9.is (tests_yes (policy_of p) (recipe_of r) (held_now g) (branch_now g) value5.result found word-of4.ensures _
+      if17.false) named15.ensures (join_is g.ready g.standing.branch tagged (rw tag-of3.ensures at join3.ensures)) kind-at7.ensures)
+]
+
+pub returns-then-kind-eq10 : goal.returns-then-kind-eq10
+returns-then-kind-eq10 c = λ r p a l. done_spent (c.loop-step.invariant r p a l) (omega arith) (omega (arith, c.if-kind-eq10.true))
+
+pub returns-else-kind-eq10 : goal.returns-else-kind-eq10
+returns-else-kind-eq10 c = λ r p a l. spent (c.loop-step.invariant r p a l) (omega arith) c.if-kind-eq10.false
