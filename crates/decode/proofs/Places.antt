@@ -4,65 +4,22 @@ use native.Mathlib.Omega.{arith}
 use mathlib.Core.Path.{◌≡◌, refl, sym, ap, ◌∙◌}
 use mathlib.Core.List.{List, [], ◌∷◌}
 use borrow.Author.Count.{below_more}
-use lib.ListN.{length, set}
+use lib.ListN.{length}
 use lib.Seq.{get_or-set_same, get_or-set_other}
 use Rattle.rules.specs.declared.Place.{Place}
-use Rattle.rules.specs.declared.Expr.{Expr}
-use Rattle.rules.specs.declared.Expr.TheVariants.{Constant, Variable, Cell, Unary, Binary, BadExpr}
 use Rattle.rules.specs.Bytes.{Bytes, byte, whole}
-use Rattle.rules.specs.Recipe.{recipe_of}
 use Rattle.rules.specs.Memory.{◌#◌, value_of, Memory, place_at, write, places, place_bytes}
 use Rattle.rules.proofs.Bytes.{length_places}
 use Rattle.memory.specs.Layout.{placed}
 use Rattle.memory.proofs.Places.{read, written, places_bytes}
 use Rattle.layout.specs.Answers.{worth_of}
-use Rattle.layout.specs.Places.{place_in, held_from, ConstantAs}
-use Rattle.layout.proofs.Answers.{worth_back}
-use Rattle.decode.specs.Filled.{Kept, PlacesAs, ConstantsAs}
-use Rattle.decode.proofs.Tables.{kept_set}
+use Rattle.layout.specs.Places.{place_in, held_from}
+use Rattle.decode.specs.Filled.{Kept, PlacesAs}
 
 -- ---- places
 
 pub places_kept : (m : List ℕ) (n : ℕ) {lo : ℕ} {u v : List ℕ} → Kept lo u v → n ≤ lo → PlacesAs m n u → PlacesAs m n v
 places_kept m n k l all i h = ap worth_of (k.below i (omega arith)) ∙ all i h
-
-place_put : (u : List ℕ) (i : ℕ) (q : Place) → i < length u → q.value < 2 ^ 32 → place_in (set u i (q.value + 4294967296 * q.tag)) i ≡ q
-place_put u i q h small = ap worth_of (get_or-set_same u i _ 0 h) ∙ worth_back q small
-
-pub places_more : (m u : List ℕ) (i : ℕ) (q : Place) → i < length u → q.value < 2 ^ 32 → q ≡ whole m (5 * i) # byte m (5 * i + 4)
-    → PlacesAs m i u → PlacesAs m (i + 1) (set u i (q.value + 4294967296 * q.tag))
-places_more m u i q h small e all =
-    below_more _ i (places_kept m i (kept_set i u i _ (omega arith)) (omega arith) all) (place_put u i q h small ∙ e)
-
--- ---- constants
-
--- every other expression asks for nothing
-pub no_constant : (u : List ℕ) (e : ℕ) (x : Expr) → ((w : ℕ) → x ≡ Constant w → ⊥) → ConstantAs u e x
-no_constant u e (Constant w) h = absurd (h w refl)
-no_constant u e (Variable x) h = tt
-no_constant u e (Cell x) h = tt
-no_constant u e (Unary op x) h = tt
-no_constant u e (Binary op x y) h = tt
-no_constant u e BadExpr h = tt
-
-pub constant_put : (u : List ℕ) (e w : ℕ) (x : Expr) → 1088 + e < length u → w < 2 ^ 32 → x ≡ Constant w
-    → ConstantAs (set u (1088 + e) w) e x × Kept (1088 + e) u (set u (1088 + e) w)
-constant_put u e w x h small q =
-    let z : w + 4294967296 * 0 ≡ w = omega arith in
-    rw q (rw z at (place_put u (1088 + e) (w # 0) h small), kept_set (1088 + e) u (1088 + e) w (omega arith))
-
-constant_kept : {lo : ℕ} {u v : List ℕ} (e : ℕ) (x : Expr) → Kept lo u v → 1088 + e < lo → ConstantAs u e x → ConstantAs v e x
-constant_kept e (Constant w) k l a = ap worth_of (k.below (1088 + e) l) ∙ a
-constant_kept e (Variable x) k l a = tt
-constant_kept e (Cell x) k l a = tt
-constant_kept e (Unary op x) k l a = tt
-constant_kept e (Binary op x y) k l a = tt
-constant_kept e BadExpr k l a = tt
-
-pub constants_more : (r : List ℕ) {u v : List ℕ} (e : ℕ) {x : Expr} → x ≡ (recipe_of r).expr_at e → ConstantAs v e x
-    → Kept (1088 + e) u v → ConstantsAs r e u → ConstantsAs r (e + 1) v
-constants_more r e q a k all =
-    below_more _ e (λ j h. constant_kept j ((recipe_of r).expr_at j) k (omega arith) (all j h)) (rw q at a)
 
 -- ---- the memory
 

@@ -9,45 +9,37 @@ ghost use Rattle.rules.specs.Memory.{places_of, place_bytes, count};
 ghost use Rattle.rules.specs.Accepted.{StmtOk, WellFormed, LawfulPolicy};
 ghost use Rattle.layout.specs.Tables.{unary_number, binary_number, ExprAs, Decoded};
 ghost use Rattle.layout.specs.Places.{held_from, held_in, ConstantAs};
-ghost use Rattle.decode.specs.Filled.{fields_of, one_operand, two_operands, expr_fields, stmt_fields, FieldsAt, Kept, ExprsAs, StmtsAs, RowAs, JoinsAs, ClearancesAs, PlacesAs, ConstantsAs};
+ghost use Rattle.decode.specs.Filled.{one_operand, two_operands, expr_fields, stmt_fields, FieldsAt, Kept, ExprsAs, StmtsAs, RowAs, JoinsAs, ClearancesAs, PlacesAs, ConstantsAs};
 
 use rules::{BinaryOp, Expr, Place, Stmt, UnaryOp};
 
+// Where each part of the tables begins; the expressions come first.
+const STMTS: usize = 4096;
+
+const JOINS: usize = 8192;
+
+const CLEARANCES: usize = 8448;
+
+const VARS: usize = 8464;
+
+const CELLS: usize = 8465;
+
+// Where the constants begin, above the memory's places.
+const CONSTANTS: usize = 1088;
+
 // A decoded record: what it is, and the numbers that it names.
-#[derive(Clone, Copy)]
-struct Fields {
-    kind: u16,
-    first: u16,
-    second: u16,
-    third: u16,
-}
-
-fn fields_of(kind: u16, first: u16, second: u16, third: u16) -> Fields
-    ensures { result ≡ fields_of kind first second third }
+fn put_fields(t: &mut [u16; 8466], at: usize, fields: [u16; 4])
+    requires { at + 3 < 8466 }
+    ensures { FieldsAt t.new at fields × Kept at t.old t.new }
 {
-    Fields {
-        kind: kind,
-        first: first,
-        second: second,
-        third: third,
-    }
-}
-
-// The parts take slices: an array's length is told where it is lent as one, and nowhere else.
-fn put_fields(t: &mut [u16], at: usize, f: Fields)
-    requires { at + 3 < length t.old }
-    ensures { FieldsAt t.new at f × Kept at t.old t.new }
-{
-    t[at] = f.kind;
-    t[at + 1] = f.first;
-    t[at + 2] = f.second;
-    t[at + 3] = f.third;
+    t[at..at + 4].copy_from_slice(&fields);
 }
 
 // ---- expressions
 
+#[tactic(auto, unfolding(layout::specs::Tables::unary_number))]
 fn unary_number(op: UnaryOp) -> u16
-    ensures { result ≡ unary_number op }
+    ensures { (result ≡ unary_number op) × (result < 16) }
 {
     match op {
         UnaryOp::Negate => 2,
@@ -56,8 +48,9 @@ fn unary_number(op: UnaryOp) -> u16
     }
 }
 
+#[tactic(auto, unfolding(layout::specs::Tables::binary_number))]
 fn binary_number(op: BinaryOp) -> u16
-    ensures { result ≡ binary_number op }
+    ensures { (result ≡ binary_number op) × (result < 16) }
 {
     match op {
         BinaryOp::Add => 5,
@@ -73,102 +66,101 @@ fn binary_number(op: BinaryOp) -> u16
 }
 
 // An operand that is a leaf is named by its place, which its own record has.
-fn one_operand(t: &[u16], k: u16, a: usize) -> Fields
-    requires { (k < 16) × (a < 1024) × (length t.now ≡ 8466) }
+#[tactic(auto, using(crate::proofs::Tables::one_leaf, crate::proofs::Tables::one_inner))]
+fn one_operand(t: &[u16; 8466], k: u16, a: usize) -> [u16; 4]
+    requires { (k < 16) × (a < 1024) }
     ensures { (R : Recipe) → ExprAs R t.now a (R.expr_at a) → result ≡ one_operand R k a }
 {
     if t[4 * a] == 0 {
-        fields_of(k, t[4 * a + 1], 0, 0)
+        [k, t[4 * a + 1], 0, 0]
     } else {
-        fields_of(16 + k, a as u16, 0, 0)
+        [16 + k, a as u16, 0, 0]
     }
 }
 
 // Both operands are named by their places, or neither.
 #[tactic(auto, using(crate::proofs::Tables::two_leaves, crate::proofs::Tables::first_inner, crate::proofs::Tables::second_inner))]
-fn two_operands(t: &[u16], k: u16, a: usize, b: usize) -> Fields
-    requires { (k < 16) × (a < 1024) × (b < 1024) × (length t.now ≡ 8466) }
+fn two_operands(t: &[u16; 8466], k: u16, a: usize, b: usize) -> [u16; 4]
+    requires { (k < 16) × (a < 1024) × (b < 1024) }
     ensures { (R : Recipe) → ExprAs R t.now a (R.expr_at a) → ExprAs R t.now b (R.expr_at b) → result ≡ two_operands R k a b }
 {
-    if t[4 * a] == 0 {
-        if t[4 * b] == 0 {
-            return fields_of(k, t[4 * a + 1], t[4 * b + 1], 0);
-        }
+    if t[4 * a] == 0 && t[4 * b] == 0 {
+        [k, t[4 * a + 1], t[4 * b + 1], 0]
+    } else {
+        [16 + k, a as u16, b as u16, 0]
     }
-    fields_of(16 + k, a as u16, b as u16, 0)
 }
 
 // An expression's operands are lower than itself, so that their records are there.
-fn expr_fields(r: &[u8], t: &[u16], e: usize) -> Fields
-    requires { WellFormed r.now × (e < (recipe_of r.now).exprs) × (length t.now ≡ 8466) × ExprsAs r.now e t.now }
+fn expr_fields(r: &[u8], t: &[u16; 8466], e: usize) -> [u16; 4]
+    requires { WellFormed r.now × (e < (recipe_of r.now).exprs) × ExprsAs r.now e t.now }
     ensures { result ≡ expr_fields (recipe_of r.now) e ((recipe_of r.now).expr_at e) }
 {
     match tables::expr_at(r, e) {
-        Expr::Constant(_) => fields_of(0, (1088 + e) as u16, 0, 0),
-        Expr::Variable(v) => fields_of(0, v as u16, 0, 0),
+        Expr::Constant(_) => [0, (CONSTANTS + e) as u16, 0, 0],
+        Expr::Variable(v) => [0, v as u16, 0, 0],
         Expr::Cell(i) => one_operand(t, 1, i),
         Expr::Unary(op, a) => one_operand(t, unary_number(op), a),
         Expr::Binary(op, a, b) => two_operands(t, binary_number(op), a, b),
-        Expr::BadExpr => fields_of(0, 0, 0, 0),
+        Expr::BadExpr => [0, 0, 0, 0],
     }
 }
 
-fn decode_exprs(r: &[u8], t: &mut [u16])
-    requires { WellFormed r.now × (length t.old ≡ 8466) }
+fn decode_exprs(r: &[u8], t: &mut [u16; 8466])
+    requires { WellFormed r.now }
     ensures { ExprsAs r.now (recipe_of r.now).exprs t.new }
 {
     let exprs = tables::half_at(r, 6);
     for e in 0..exprs {
-        let f = expr_fields(r, t, e);
-        put_fields(t, 4 * e, f);
+        let fields = expr_fields(r, t, e);
+        put_fields(t, 4 * e, fields);
     }
 }
 
 // ---- statements
 
-fn stmt_fields(x: Stmt) -> Fields
+fn stmt_fields(x: Stmt) -> [u16; 4]
     requires { StmtOk 64 1024 512 x }
     ensures { result ≡ stmt_fields x }
 {
     match x {
-        Stmt::Skip => fields_of(0, 0, 0, 0),
-        Stmt::Assign(v, e) => fields_of(1, v as u16, e as u16, 0),
-        Stmt::Store(i, e) => fields_of(2, i as u16, e as u16, 0),
-        Stmt::Then(a, b) => fields_of(3, a as u16, b as u16, 0),
-        Stmt::If(e, a, b) => fields_of(4, e as u16, a as u16, b as u16),
-        Stmt::While(e, a) => fields_of(5, e as u16, a as u16, 0),
-        Stmt::Emit(port, e) => fields_of(6, e as u16, port as u16, 0),
-        Stmt::BadStmt => fields_of(0, 0, 0, 0),
+        Stmt::Skip => [0, 0, 0, 0],
+        Stmt::Assign(v, e) => [1, v as u16, e as u16, 0],
+        Stmt::Store(i, e) => [2, i as u16, e as u16, 0],
+        Stmt::Then(a, b) => [3, a as u16, b as u16, 0],
+        Stmt::If(e, a, b) => [4, e as u16, a as u16, b as u16],
+        Stmt::While(e, a) => [5, e as u16, a as u16, 0],
+        Stmt::Emit(port, e) => [6, e as u16, u16::from(port), 0],
+        Stmt::BadStmt => [0, 0, 0, 0],
     }
 }
 
-fn decode_stmts(r: &[u8], t: &mut [u16])
-    requires { WellFormed r.now × (length t.old ≡ 8466) }
+fn decode_stmts(r: &[u8], t: &mut [u16; 8466])
+    requires { WellFormed r.now }
     ensures { StmtsAs r.now (recipe_of r.now).stmts t.new × Kept 4096 t.old t.new }
 {
     let stmts = tables::half_at(r, 8);
     for s in 0..stmts {
-        let f = stmt_fields(tables::stmt_at(r, s));
-        put_fields(t, 4096 + 4 * s, f);
+        let fields = stmt_fields(tables::stmt_at(r, s));
+        put_fields(t, STMTS + 4 * s, fields);
     }
 }
 
 // ---- the policy
 
-fn decode_row(p: &[u8], a: u8, t: &mut [u16])
-    requires { LawfulPolicy p.now × (length t.old ≡ 8466) × (a < byte p.now 6) }
+fn decode_row(p: &[u8], a: u8, t: &mut [u16; 8466])
+    requires { LawfulPolicy p.now × (a < byte p.now 6) }
     ensures { RowAs p.now a (byte p.now 6) t.new × Kept (8192 + 16 * a) t.old t.new }
 {
-    let from = 8192 + 16 * tables::wide(a);
+    let from = JOINS + 16 * usize::from(a);
     let tags = p[6];
     for b in 0..tags {
-        let joined = policy::join(p, a, b);
-        t[from + tables::wide(b)] = joined as u16;
+        t[from + usize::from(b)] = u16::from(policy::join(p, a, b));
     }
 }
 
-fn decode_joins(p: &[u8], t: &mut [u16])
-    requires { LawfulPolicy p.now × (length t.old ≡ 8466) }
+fn decode_joins(p: &[u8], t: &mut [u16; 8466])
+    requires { LawfulPolicy p.now }
     ensures { JoinsAs p.now (byte p.now 6) t.new × Kept 8192 t.old t.new }
 {
     let tags = p[6];
@@ -177,14 +169,13 @@ fn decode_joins(p: &[u8], t: &mut [u16])
     }
 }
 
-fn decode_clearances(p: &[u8], t: &mut [u16])
-    requires { LawfulPolicy p.now × (length t.old ≡ 8466) }
+fn decode_clearances(p: &[u8], t: &mut [u16; 8466])
+    requires { LawfulPolicy p.now }
     ensures { ClearancesAs p.now (byte p.now 7) t.new × Kept 8448 t.old t.new }
 {
     let ports = p[7];
     for port in 0..ports {
-        let cleared = policy::clearance(p, port);
-        t[8448 + tables::wide(port)] = cleared as u16;
+        t[CLEARANCES + usize::from(port)] = u16::from(policy::clearance(p, port));
     }
 }
 
@@ -200,39 +191,31 @@ pub fn decode(r: &[u8], p: &[u8], t: &mut [u16; 8466])
     decode_clearances(p, t);
     let vars = tables::half_at(r, 10);
     let cells = tables::half_at(r, 12);
-    t[8464] = vars as u16;
-    t[8465] = cells as u16;
+    t[VARS] = vars as u16;
+    t[CELLS] = cells as u16;
 }
 
 // ---- the places
 
-fn load_places(m: &[u8], count: usize, u: &mut [u64])
-    requires { (count ≤ 1088) × (length m.now ≡ 5 * count) × (length u.old ≡ 2112) }
+fn load_places(m: &[u8], count: usize, u: &mut [u64; 2112])
+    requires { (count ≤ 1088) × (length m.now ≡ 5 * count) }
     ensures { PlacesAs m.now count u.new }
 {
     for i in 0..count {
         let q = memory::place_at(m, i);
-        u[i] = (q.value as u64) + 4294967296 * (q.tag as u64);
+        u[i] = u64::from(q.value) + 4294967296 * u64::from(q.tag);
     }
 }
 
-fn load_constant(u: &mut [u64], e: usize, x: Expr)
-    requires { (e < 1024) × (length u.old ≡ 2112) }
-    ensures { ConstantAs u.new e x × Kept (1088 + e) u.old u.new }
-{
-    if let Expr::Constant(w) = x {
-        u[1088 + e] = w as u64;
-    }
-}
-
-fn load_constants(r: &[u8], u: &mut [u64])
-    requires { WellFormed r.now × (length u.old ≡ 2112) }
+fn load_constants(r: &[u8], u: &mut [u64; 2112])
+    requires { WellFormed r.now }
     ensures { ConstantsAs r.now (recipe_of r.now).exprs u.new × Kept 1088 u.old u.new }
 {
     let exprs = tables::half_at(r, 6);
     for e in 0..exprs {
-        let x = tables::expr_at(r, e);
-        load_constant(u, e, x);
+        if let Expr::Constant(w) = tables::expr_at(r, e) {
+            u[CONSTANTS + e] = u64::from(w);
+        }
     }
 }
 
@@ -250,8 +233,7 @@ pub fn write_back(u: &[u64; 2112], count: usize, m: &mut [u8])
     requires { (count ≤ 1088) × (length m.old ≡ 5 * count) × ((i : ℕ) → i < count → get_or u.now i 0 / 4294967296 < 256) }
     ensures { m.new ≡ place_bytes (held_from u.now 0 count) }
 {
-    for i in 0..count {
-        let x = u[i];
+    for (i, &x) in u[..count].iter().enumerate() {
         memory::put_place(
             m,
             i,

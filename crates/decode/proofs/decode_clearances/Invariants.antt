@@ -1,9 +1,5 @@
-use Prim.Native.Nat.{◌-◌, ◌≤◌}
 use Rattle.decode.specs.Filled.{ClearancesAs, Kept}
 use Rattle.decode.proofs.decode_clearances.Given as goal
 
 abbrev pub invariant-loop-port : goal.invariant-loop-port
-invariant-loop-port l = (l.port ≤ l.ports) × ClearancesAs l.p l.port l.t × Kept 8448 l.initial.t l.t
-
-abbrev pub decreases-loop-port : goal.decreases-loop-port
-decreases-loop-port l = l.ports - l.port
+invariant-loop-port l = ClearancesAs l.p l.port l.t × Kept 8448 l.initial.t l.t

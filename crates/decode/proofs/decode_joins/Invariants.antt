@@ -1,9 +1,5 @@
-use Prim.Native.Nat.{◌-◌, ◌≤◌}
 use Rattle.decode.specs.Filled.{JoinsAs, Kept}
 use Rattle.decode.proofs.decode_joins.Given as goal
 
 abbrev pub invariant-loop-a : goal.invariant-loop-a
-invariant-loop-a l = (l.a ≤ l.tags) × JoinsAs l.p l.a l.t × Kept 8192 l.initial.t l.t
-
-abbrev pub decreases-loop-a : goal.decreases-loop-a
-decreases-loop-a l = l.tags - l.a
+invariant-loop-a l = JoinsAs l.p l.a l.t × Kept 8192 l.initial.t l.t

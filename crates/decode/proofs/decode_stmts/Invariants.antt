@@ -1,9 +1,5 @@
-use Prim.Native.Nat.{◌-◌, ◌≤◌}
 use Rattle.decode.specs.Filled.{StmtsAs, Kept}
 use Rattle.decode.proofs.decode_stmts.Given as goal
 
 abbrev pub invariant-loop-s : goal.invariant-loop-s
-invariant-loop-s l = (l.s ≤ l.stmts) × StmtsAs l.r l.s l.t × Kept 4096 l.initial.t l.t
-
-abbrev pub decreases-loop-s : goal.decreases-loop-s
-decreases-loop-s l = l.stmts - l.s
+invariant-loop-s l = StmtsAs l.r l.s l.t × Kept 4096 l.initial.t l.t

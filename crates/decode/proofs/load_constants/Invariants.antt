@@ -1,9 +1,5 @@
-use Prim.Native.Nat.{◌-◌, ◌≤◌}
 use Rattle.decode.specs.Filled.{ConstantsAs, Kept}
 use Rattle.decode.proofs.load_constants.Given as goal
 
 abbrev pub invariant-loop-e : goal.invariant-loop-e
-invariant-loop-e l = (l.e ≤ l.exprs) × ConstantsAs l.r l.e l.u × Kept 1088 l.initial.u l.u
-
-abbrev pub decreases-loop-e : goal.decreases-loop-e
-decreases-loop-e l = l.exprs - l.e
+invariant-loop-e l = ConstantsAs l.r l.e l.u × Kept 1088 l.initial.u l.u
