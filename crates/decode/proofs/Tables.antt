@@ -1,6 +1,7 @@
 -- The tables, filled upwards: what a store makes so, and what it leaves. Assumes nothing.
 use Prim.Native.Nat.{ℕ, ◌+◌, ◌*◌, ◌<◌, ◌≤◌}
 use native.Mathlib.Omega.{arith}
+use Rattle.std.proofs.lemmas.Grind.{common_steps}
 use mathlib.Core.Path.{◌≡◌, refl, sym, ◌∙◌}
 use mathlib.Core.Bool.{Bool, true, false, ◌&&◌}
 use mathlib.Core.List.{List, [], ◌∷◌}
@@ -129,14 +130,14 @@ joins_more p a few k row all = below_more _ a (λ j h. row_kept p j (byte p 6) k
 
 -- ---- both tables
 
-module _ {r p t₁ t₂ t₃ t₄ : List ℕ} (wf : WellFormed r) (lawful : LawfulPolicy p)
+module _ {r p t₁ t₂ t₃ t₄ : List ℕ} {vars cells : ℕ} (wf : WellFormed r) (lawful : LawfulPolicy p)
     (exprs : ExprsAs r (recipe_of r).exprs t₁)
     (stmts : StmtsAs r (recipe_of r).stmts t₂ × Kept 4096 t₁ t₂)
     (joins : JoinsAs p (byte p 6) t₃ × Kept 8192 t₂ t₃)
     (clearances : ClearancesAs p (byte p 7) t₄ × Kept 8448 t₃ t₄)
-    (size : length t₄ ≡ 8466) where
+    (size : length t₄ ≡ 8466) (as_vars : vars ≡ (recipe_of r).vars) (as_cells : cells ≡ (recipe_of r).cells) where
   abbrev counted : List ℕ
-  counted = set (set t₄ 8464 (recipe_of r).vars) 8465 (recipe_of r).cells
+  counted = set (set t₄ 8464 vars) 8465 cells
 
   after_ports : Kept 8464 t₄ counted
   after_ports = kept_then (omega arith) (kept_set 8464 t₄ 8464 _ (omega arith)) (kept_set 8465 _ 8465 _ (omega arith))
@@ -157,8 +158,6 @@ module _ {r p t₁ t₂ t₃ t₄ : List ℕ} (wf : WellFormed r) (lawful : Lawf
         stmts_as = λ s h. stmt_kept after_stmts (omega (arith, wf.counts.few_stmts)) (stmts.0 s h);
         joins_as = λ a b h k. row_kept p a (byte p 6) after_joins lawful.few_tags (omega (arith, lawful.few_tags)) (joins.0 a h) b k;
         clearances_as = λ port h. after_ports.below (8448 + port) (omega (arith, lawful.few_ports)) ∙ clearances.0 port h;
-        vars_as =
-            get_or-set_other (set t₄ 8464 (recipe_of r).vars) 8465 8464 _ 0 (λ e. omega arith)
-            ∙ get_or-set_same t₄ 8464 _ 0 (omega arith);
-        cells_as = get_or-set_same (set t₄ 8464 (recipe_of r).vars) 8465 _ 0 (simp length-set (omega arith));
+        vars_as = grind (arith, common_steps);
+        cells_as = grind (arith, common_steps);
       }

@@ -201,9 +201,9 @@ fn load_places(m: &[u8], count: usize, u: &mut [u64; 2112])
     requires { (count ≤ 1088) × (length m.now ≡ 5 * count) }
     ensures { PlacesAs m.now count u.new }
 {
-    for i in 0..count {
+    for (i, x) in u[..count].iter_mut().enumerate() {
         let q = memory::place_at(m, i);
-        u[i] = u64::from(q.value) + 4294967296 * u64::from(q.tag);
+        *x = u64::from(q.value) + 4294967296 * u64::from(q.tag);
     }
 }
 

@@ -5,24 +5,12 @@ use mathlib.Core.Path.{◌≡◌}
 use Rattle.rules.specs.Memory.{count}
 use Rattle.rules.specs.Recipe.{recipe_of}
 use Rattle.decode.proofs.Places.{places_kept, held_places}
-use borrow.Author.Rules.{rules}
 use Rattle.decode.proofs.load.Goals as goal
 
 pub returns : goal.returns
 returns c =
-    let pre = c.requires in
-    let args = c.args in
-    let half_at = c.half_at-vars in
-    let half-at2 = c.half_at-cells in
-    let load-places = c.load_places in
-    let load-constants = c.load_constants in
-    let few = pre.0.counts in
-    let n : half_at.result + half-at2.result ≡ count
-    (recipe_of args.r.now) = omega (arith, half_at.ensures.0, half-at2.ensures.0) in
-    let all = rw n at load-places.ensures in (
-      held_places _ _ _ (places_kept args.m.now
-          (count (recipe_of args.r.now)) load-constants.ensures.1
-          (omega (arith, few.few_vars, few.few_cells)) all),
-      load-constants.ensures.0,
-      search rules,
-    )
+    let few = c.requires.0.counts in
+    let n : c.half_at-vars.result + c.half_at-cells.result ≡ count (recipe_of c.args.r.now) = omega arith in
+    let all = rw n at c.load_places.ensures in
+    let constants = c.load_constants.ensures in
+    (held_places _ _ _ (places_kept c.args.m.now _ constants.1 (omega arith) all), constants.0, c.load_constants.array_long)
