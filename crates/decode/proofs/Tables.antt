@@ -4,22 +4,20 @@ use native.Mathlib.Omega.{arith}
 use Rattle.std.proofs.lemmas.Grind.{common_steps}
 use mathlib.Core.Path.{◌≡◌, refl, sym, ◌∙◌}
 use mathlib.Core.Bool.{Bool, true, false, ◌&&◌}
-use mathlib.Core.List.{List, [], ◌∷◌}
+use mathlib.Core.List.{List}
 use borrow.Author.Count.{below_more}
 use lib.ListN.{length, get_or, set, length-set}
-use lib.Seq.{get_or-set_same, get_or-set_other}
+use lib.Seq.{get_or-set_other}
 use Rattle.rules.specs.declared.Expr.{Expr}
 use Rattle.rules.specs.declared.Expr.TheVariants.{Constant, Variable, Cell, Unary, Binary, BadExpr}
-use Rattle.rules.specs.declared.UnaryOp.{UnaryOp}
-use Rattle.rules.specs.declared.BinaryOp.{BinaryOp}
 use Rattle.rules.specs.declared.Stmt.{Stmt}
 use Rattle.rules.specs.Bytes.{byte}
 use Rattle.rules.specs.Policy.{policy_of}
 use Rattle.rules.specs.Recipe.{Recipe, recipe_of}
 use Rattle.rules.specs.Accepted.{ExprOk, WellFormed, LawfulPolicy}
-use Rattle.layout.specs.Tables.{unary_number, binary_number, leaf, place_of, code_of, ExprAs, StmtAs, Decoded}
+use Rattle.layout.specs.Tables.{leaf, place_of, code_of, ExprAs, StmtAs, Decoded}
 use Rattle.layout.proofs.Answers.{unary_range, binary_range}
-use Rattle.decode.specs.Filled.{one_operand, two_operands, expr_fields, Kept, ExprsAs, StmtsAs, RowAs, JoinsAs, ClearancesAs}
+use Rattle.decode.specs.Filled.{Kept, ExprsAs, StmtsAs, RowAs, JoinsAs, ClearancesAs}
 
 -- ---- what is kept
 
@@ -36,7 +34,7 @@ code_some true k h e = omega arith
 code_some false k h e = omega arith
 
 -- a record whose code is 0 is a leaf's, and has its place; any other is none
-leaf_read : (R : Recipe) (t : List ℕ) (a : ℕ) (x : Expr) → ExprAs R t a x → get_or t (4 * a) 0 ≡ 0
+pub leaf_read : (R : Recipe) (t : List ℕ) (a : ℕ) (x : Expr) → ExprAs R t a x → get_or t (4 * a) 0 ≡ 0
     → (leaf x ≡ true) × (get_or t (4 * a + 1) 0 ≡ place_of a x)
 leaf_read R t a (Constant w) k z = (refl, k.left)
 leaf_read R t a (Variable v) k z = (refl, k.left)
@@ -45,7 +43,7 @@ leaf_read R t a (Unary op x) k z = absurd (code_some (leaf (R.expr_at x)) _ (ome
 leaf_read R t a (Binary op x y) k z = absurd (code_some (leaf (R.expr_at x) && leaf (R.expr_at y)) _ (omega (arith, binary_range op)) (sym k.code ∙ z))
 leaf_read R t a BadExpr k z = (refl, k.left)
 
-inner_read : (R : Recipe) (t : List ℕ) (a : ℕ) (x : Expr) → ExprAs R t a x → (get_or t (4 * a) 0 ≡ 0 → ⊥) → leaf x ≡ false
+pub inner_read : (R : Recipe) (t : List ℕ) (a : ℕ) (x : Expr) → ExprAs R t a x → (get_or t (4 * a) 0 ≡ 0 → ⊥) → leaf x ≡ false
 inner_read R t a (Constant w) k n = absurd (n k.code)
 inner_read R t a (Variable v) k n = absurd (n k.code)
 inner_read R t a (Cell i) k n = refl
@@ -53,52 +51,9 @@ inner_read R t a (Unary op x) k n = refl
 inner_read R t a (Binary op x y) k n = refl
 inner_read R t a BadExpr k n = absurd (n k.code)
 
-and_false : (x : Bool) → x && false ≡ false
-and_false true = refl
-and_false false = refl
-
-module _ (R : Recipe) (t : List ℕ) (k a : ℕ) (l : ExprAs R t a (R.expr_at a)) where
-  pub one_leaf : get_or t (4 * a) 0 ≡ 0 → k ∷ get_or t (4 * a + 1) 0 ∷ 0 ∷ 0 ∷ [] ≡ one_operand R k a
-  one_leaf z =
-      let h = leaf_read R t a (R.expr_at a) l z in
-      rw (h.0, h.1)
-
-  pub one_inner : (get_or t (4 * a) 0 ≡ 0 → ⊥) → (16 + k) ∷ a ∷ 0 ∷ 0 ∷ [] ≡ one_operand R k a
-  one_inner n = rw (inner_read R t a (R.expr_at a) l n)
-
-  module _ (b : ℕ) (m : ExprAs R t b (R.expr_at b)) where
-    pub two_leaves : get_or t (4 * a) 0 ≡ 0 → get_or t (4 * b) 0 ≡ 0 → k ∷ get_or t (4 * a + 1) 0 ∷ get_or t (4 * b + 1) 0 ∷ 0 ∷ [] ≡ two_operands R k a b
-    two_leaves y z =
-        let g = leaf_read R t a (R.expr_at a) l y in
-        let h = leaf_read R t b (R.expr_at b) m z in
-        rw (g.0, h.0, g.1, h.1)
-
-    pub first_inner : (get_or t (4 * a) 0 ≡ 0 → ⊥) → (16 + k) ∷ a ∷ b ∷ 0 ∷ [] ≡ two_operands R k a b
-    first_inner n = rw (inner_read R t a (R.expr_at a) l n)
-
-    pub second_inner : (get_or t (4 * b) 0 ≡ 0 → ⊥) → (16 + k) ∷ a ∷ b ∷ 0 ∷ [] ≡ two_operands R k a b
-    second_inner n = rw (inner_read R t b (R.expr_at b) m n, and_false (leaf (R.expr_at a)))
-
--- what was read as expression e names operands lower than itself, whose records are there
-module _ {r t : List ℕ} {e : ℕ} {x : Expr} (wf : WellFormed r) (h : e < (recipe_of r).exprs) (all : ExprsAs r e t) (q : x ≡ (recipe_of r).expr_at e) where
-  fits : {y : Expr} → x ≡ y → ExprOk (recipe_of r).vars e y
-  fits told = rw (sym q ∙ told) at (wf.ordered.exprs_ok e h)
-
-  pub cell_told : {f : List ℕ} {i : ℕ} → x ≡ Cell i → (ExprAs (recipe_of r) t i ((recipe_of r).expr_at i) → f ≡ one_operand (recipe_of r) 1 i)
-      → f ≡ expr_fields (recipe_of r) e ((recipe_of r).expr_at e)
-  cell_told {f} {i} told g = rw (sym q ∙ told) (g (all i (fits told)))
-
-  pub unary_told : {f : List ℕ} {op : UnaryOp} {a : ℕ} → x ≡ Unary op a
-      → (ExprAs (recipe_of r) t a ((recipe_of r).expr_at a) → f ≡ one_operand (recipe_of r) (unary_number op) a)
-      → f ≡ expr_fields (recipe_of r) e ((recipe_of r).expr_at e)
-  unary_told {f} {op} {a} told g = rw (sym q ∙ told) (g (all a (fits told)))
-
-  pub binary_told : {f : List ℕ} {op : BinaryOp} {a b : ℕ} → x ≡ Binary op a b
-      → (ExprAs (recipe_of r) t a ((recipe_of r).expr_at a) → ExprAs (recipe_of r) t b ((recipe_of r).expr_at b) → f ≡ two_operands (recipe_of r) (binary_number op) a b)
-      → f ≡ expr_fields (recipe_of r) e ((recipe_of r).expr_at e)
-  binary_told {f} {op} {a} {b} told g =
-      let low : (a < e) × (b < e) = fits told in
-      rw (sym q ∙ told) (g (all a low.0) (all b low.1))
+-- an expression's operands are lower than itself
+pub expr_fits : {r : List ℕ} {e : ℕ} {y : Expr} → WellFormed r → e < (recipe_of r).exprs → (recipe_of r).expr_at e ≡ y → ExprOk (recipe_of r).vars e y
+expr_fits {e = e} wf h q = rw q at (wf.ordered.exprs_ok e h)
 
 pub expr_kept : {R : Recipe} {lo : ℕ} {t v : List ℕ} {e : ℕ} {x : Expr} → Kept lo t v → 4 * e + 3 ≤ lo → ExprAs R t e x → ExprAs R v e x
 expr_kept {e = e} k l a =

@@ -1,6 +1,6 @@
 -- How much of an array is filled, and that what was filled before stays. An array is filled upwards, so nothing is said of what
 -- stands above. Assumes nothing.
-use Rattle.std.specs.Prelude.{ℕ, ◌+◌, ◌*◌, ◌<◌, ◌≡◌, List, [], ◌∷◌, length, get_or}
+use Rattle.std.specs.Prelude.{ℕ, ◌+◌, ◌*◌, ◌<◌, ◌≡◌, List, length, get_or}
 use Rattle.rules.specs.declared.Expr.{Expr}
 use Rattle.rules.specs.declared.Stmt.{Stmt}
 use Rattle.rules.specs.Bytes.{byte, whole}
@@ -9,27 +9,31 @@ use Rattle.rules.specs.Recipe.{Recipe, recipe_of}
 use Rattle.rules.specs.Memory.{◌#◌}
 use Rattle.layout.specs.Tables.{operator_of, leaf, both_leaves, flat, code_of, operand_of, left_of, right_of, ExprAs, kind_of, first_of, second_of, third_of, StmtAs, join_in}
 use Rattle.layout.specs.Places.{place_in, ConstantAs}
+use Rattle.decode.specs.declared.Fields.{Fields}
 
--- ---- records: what it is, and the three numbers that it names
+-- ---- records
+
+abbrev pub fields_of : (kind first second third : ℕ) → Fields
+fields_of k a b c = record { kind = k; first = a; second = b; third = c }
 
 -- an operator k and its operands
-abbrev pub one_operand : Recipe → (k a : ℕ) → List ℕ
-one_operand R k a = code_of (leaf (R.expr_at a)) k ∷ operand_of R (leaf (R.expr_at a)) a ∷ 0 ∷ 0 ∷ []
+abbrev pub one_operand : Recipe → (k a : ℕ) → Fields
+one_operand R k a = fields_of (code_of (leaf (R.expr_at a)) k) (operand_of R (leaf (R.expr_at a)) a) 0 0
 
-abbrev pub two_operands : Recipe → (k a b : ℕ) → List ℕ
-two_operands R k a b = code_of (both_leaves R a b) k ∷ operand_of R (both_leaves R a b) a ∷ operand_of R (both_leaves R a b) b ∷ 0 ∷ []
+abbrev pub two_operands : Recipe → (k a b : ℕ) → Fields
+two_operands R k a b = fields_of (code_of (both_leaves R a b) k) (operand_of R (both_leaves R a b) a) (operand_of R (both_leaves R a b) b) 0
 
-abbrev pub expr_fields : Recipe → (e : ℕ) → Expr → List ℕ
-expr_fields R e x = code_of (flat R x) (operator_of x) ∷ left_of R e x ∷ right_of R x ∷ 0 ∷ []
+abbrev pub expr_fields : Recipe → (e : ℕ) → Expr → Fields
+expr_fields R e x = fields_of (code_of (flat R x) (operator_of x)) (left_of R e x) (right_of R x) 0
 
-abbrev pub stmt_fields : Stmt → List ℕ
-stmt_fields x = kind_of x ∷ first_of x ∷ second_of x ∷ third_of x ∷ []
+abbrev pub stmt_fields : Stmt → Fields
+stmt_fields x = fields_of (kind_of x) (first_of x) (second_of x) (third_of x)
 
-pub record FieldsAt (t : List ℕ) (at : ℕ) (f : List ℕ) : Type 0 where
-  pub kind_at : get_or t at 0 ≡ get_or f 0 0
-  pub first_at : get_or t (at + 1) 0 ≡ get_or f 1 0
-  pub second_at : get_or t (at + 2) 0 ≡ get_or f 2 0
-  pub third_at : get_or t (at + 3) 0 ≡ get_or f 3 0
+pub record FieldsAt (t : List ℕ) (at : ℕ) (f : Fields) : Type 0 where
+  pub kind_at : get_or t at 0 ≡ f.kind
+  pub first_at : get_or t (at + 1) 0 ≡ f.first
+  pub second_at : get_or t (at + 2) 0 ≡ f.second
+  pub third_at : get_or t (at + 3) 0 ≡ f.third
 
 -- v is as long as t, and as t below lo
 pub record Kept (lo : ℕ) (t v : List ℕ) : Type 0 where

@@ -9,7 +9,7 @@ ghost use Rattle.rules.specs.Memory.{places_of, place_bytes, count};
 ghost use Rattle.rules.specs.Accepted.{StmtOk, WellFormed, LawfulPolicy};
 ghost use Rattle.layout.specs.Tables.{unary_number, binary_number, ExprAs, Decoded};
 ghost use Rattle.layout.specs.Places.{held_from, held_in, ConstantAs};
-ghost use Rattle.decode.specs.Filled.{one_operand, two_operands, expr_fields, stmt_fields, FieldsAt, Kept, ExprsAs, StmtsAs, RowAs, JoinsAs, ClearancesAs, PlacesAs, ConstantsAs};
+ghost use Rattle.decode.specs.Filled.{fields_of, one_operand, two_operands, expr_fields, stmt_fields, FieldsAt, Kept, ExprsAs, StmtsAs, RowAs, JoinsAs, ClearancesAs, PlacesAs, ConstantsAs};
 
 use rules::{BinaryOp, Expr, Place, Stmt, UnaryOp};
 
@@ -28,11 +28,35 @@ const CELLS: usize = 8465;
 const CONSTANTS: usize = 1088;
 
 // A decoded record: what it is, and the numbers that it names.
-fn put_fields(t: &mut [u16; 8466], at: usize, fields: [u16; 4])
+#[derive(Clone, Copy)]
+struct Fields {
+    kind: u16,
+    first: u16,
+    second: u16,
+    third: u16,
+}
+
+impl Fields {
+    fn new(kind: u16, first: u16, second: u16, third: u16) -> Self
+        ensures { result ≡ fields_of kind first second third }
+    {
+        Fields {
+            kind,
+            first,
+            second,
+            third,
+        }
+    }
+}
+
+fn put_fields(t: &mut [u16; 8466], at: usize, f: Fields)
     requires { at + 3 < 8466 }
-    ensures { FieldsAt t.new at fields × Kept at t.old t.new }
+    ensures { FieldsAt t.new at f × Kept at t.old t.new }
 {
-    t[at..at + 4].copy_from_slice(&fields);
+    t[at] = f.kind;
+    t[at + 1] = f.first;
+    t[at + 2] = f.second;
+    t[at + 3] = f.third;
 }
 
 // ---- expressions
@@ -66,43 +90,43 @@ fn binary_number(op: BinaryOp) -> u16
 }
 
 // An operand that is a leaf is named by its place, which its own record has.
-#[tactic(auto, using(crate::proofs::Tables::one_leaf, crate::proofs::Tables::one_inner))]
-fn one_operand(t: &[u16; 8466], k: u16, a: usize) -> [u16; 4]
+#[tactic(auto, using(crate::proofs::Tables::leaf_read, crate::proofs::Tables::inner_read))]
+fn one_operand(t: &[u16; 8466], k: u16, a: usize) -> Fields
     requires { (k < 16) × (a < 1024) }
     ensures { (R : Recipe) → ExprAs R t.now a (R.expr_at a) → result ≡ one_operand R k a }
 {
     if t[4 * a] == 0 {
-        [k, t[4 * a + 1], 0, 0]
+        Fields::new(k, t[4 * a + 1], 0, 0)
     } else {
-        [16 + k, a as u16, 0, 0]
+        Fields::new(16 + k, a as u16, 0, 0)
     }
 }
 
 // Both operands are named by their places, or neither.
-#[tactic(auto, using(crate::proofs::Tables::two_leaves, crate::proofs::Tables::first_inner, crate::proofs::Tables::second_inner))]
-fn two_operands(t: &[u16; 8466], k: u16, a: usize, b: usize) -> [u16; 4]
+#[tactic(auto, using(crate::proofs::Tables::leaf_read, crate::proofs::Tables::inner_read))]
+fn two_operands(t: &[u16; 8466], k: u16, a: usize, b: usize) -> Fields
     requires { (k < 16) × (a < 1024) × (b < 1024) }
     ensures { (R : Recipe) → ExprAs R t.now a (R.expr_at a) → ExprAs R t.now b (R.expr_at b) → result ≡ two_operands R k a b }
 {
     if t[4 * a] == 0 && t[4 * b] == 0 {
-        [k, t[4 * a + 1], t[4 * b + 1], 0]
+        Fields::new(k, t[4 * a + 1], t[4 * b + 1], 0)
     } else {
-        [16 + k, a as u16, b as u16, 0]
+        Fields::new(16 + k, a as u16, b as u16, 0)
     }
 }
 
 // An expression's operands are lower than itself, so that their records are there.
-fn expr_fields(r: &[u8], t: &[u16; 8466], e: usize) -> [u16; 4]
+fn expr_fields(r: &[u8], t: &[u16; 8466], e: usize) -> Fields
     requires { WellFormed r.now × (e < (recipe_of r.now).exprs) × ExprsAs r.now e t.now }
     ensures { result ≡ expr_fields (recipe_of r.now) e ((recipe_of r.now).expr_at e) }
 {
     match tables::expr_at(r, e) {
-        Expr::Constant(_) => [0, (CONSTANTS + e) as u16, 0, 0],
-        Expr::Variable(v) => [0, v as u16, 0, 0],
+        Expr::Constant(_) => Fields::new(0, (CONSTANTS + e) as u16, 0, 0),
+        Expr::Variable(v) => Fields::new(0, v as u16, 0, 0),
         Expr::Cell(i) => one_operand(t, 1, i),
         Expr::Unary(op, a) => one_operand(t, unary_number(op), a),
         Expr::Binary(op, a, b) => two_operands(t, binary_number(op), a, b),
-        Expr::BadExpr => [0, 0, 0, 0],
+        Expr::BadExpr => Fields::new(0, 0, 0, 0),
     }
 }
 
@@ -112,26 +136,26 @@ fn decode_exprs(r: &[u8], t: &mut [u16; 8466])
 {
     let exprs = tables::half_at(r, 6);
     for e in 0..exprs {
-        let fields = expr_fields(r, t, e);
-        put_fields(t, 4 * e, fields);
+        let f = expr_fields(r, t, e);
+        put_fields(t, 4 * e, f);
     }
 }
 
 // ---- statements
 
-fn stmt_fields(x: Stmt) -> [u16; 4]
+fn stmt_fields(x: Stmt) -> Fields
     requires { StmtOk 64 1024 512 x }
     ensures { result ≡ stmt_fields x }
 {
     match x {
-        Stmt::Skip => [0, 0, 0, 0],
-        Stmt::Assign(v, e) => [1, v as u16, e as u16, 0],
-        Stmt::Store(i, e) => [2, i as u16, e as u16, 0],
-        Stmt::Then(a, b) => [3, a as u16, b as u16, 0],
-        Stmt::If(e, a, b) => [4, e as u16, a as u16, b as u16],
-        Stmt::While(e, a) => [5, e as u16, a as u16, 0],
-        Stmt::Emit(port, e) => [6, e as u16, u16::from(port), 0],
-        Stmt::BadStmt => [0, 0, 0, 0],
+        Stmt::Skip => Fields::new(0, 0, 0, 0),
+        Stmt::Assign(v, e) => Fields::new(1, v as u16, e as u16, 0),
+        Stmt::Store(i, e) => Fields::new(2, i as u16, e as u16, 0),
+        Stmt::Then(a, b) => Fields::new(3, a as u16, b as u16, 0),
+        Stmt::If(e, a, b) => Fields::new(4, e as u16, a as u16, b as u16),
+        Stmt::While(e, a) => Fields::new(5, e as u16, a as u16, 0),
+        Stmt::Emit(port, e) => Fields::new(6, e as u16, u16::from(port), 0),
+        Stmt::BadStmt => Fields::new(0, 0, 0, 0),
     }
 }
 
@@ -141,8 +165,8 @@ fn decode_stmts(r: &[u8], t: &mut [u16; 8466])
 {
     let stmts = tables::half_at(r, 8);
     for s in 0..stmts {
-        let fields = stmt_fields(tables::stmt_at(r, s));
-        put_fields(t, STMTS + 4 * s, fields);
+        let f = stmt_fields(tables::stmt_at(r, s));
+        put_fields(t, STMTS + 4 * s, f);
     }
 }
 
