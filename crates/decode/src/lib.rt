@@ -213,10 +213,8 @@ pub fn decode(r: &[u8], p: &[u8], t: &mut [u16; 8466])
     decode_stmts(r, t);
     decode_joins(p, t);
     decode_clearances(p, t);
-    let vars = tables::half_at(r, 10);
-    let cells = tables::half_at(r, 12);
-    t[VARS] = vars as u16;
-    t[CELLS] = cells as u16;
+    t[VARS] = tables::half_at(r, 10) as u16;
+    t[CELLS] = tables::half_at(r, 12) as u16;
 }
 
 // ---- the places

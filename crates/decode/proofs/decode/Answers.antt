@@ -5,4 +5,4 @@ use Rattle.decode.proofs.decode.Goals as goal
 pub returns : goal.returns
 returns c =
     decoded c.requires.0 c.requires.1 c.decode_exprs.ensures c.decode_stmts.ensures c.decode_joins.ensures c.decode_clearances.ensures
-    c.decode_clearances.array_long c.half_at-vars.ensures.0 c.half_at-cells.ensures.0
+    c.decode_clearances.array_long c.half_at.ensures.0 c.half_at-2.ensures.0
