@@ -80,9 +80,9 @@ pub fn expr_at(r: &[u8], e: usize) -> Expr
     ensures { result ≡ (recipe_of r.now).expr_at e }
 {
     let o = 16 + 8 * e;
-    let a = half_at(r, o + 2);
+    // Read before the field at o + 2, which a spread's recursion goes on to in the register of e.
     let b = word_at(r, o + 4);
-    expr_of(r[o], r[o + 1], a, b)
+    expr_of(r[o], r[o + 1], half_at(r, o + 2), b)
 }
 
 // ---- statements, likewise
