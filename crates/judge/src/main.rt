@@ -3,6 +3,7 @@
 
 ghost use Rattle.std.specs.Prelude.{◌≡◌, ◌≤◌, length, take};
 
+use rules::Outcome;
 use std::fs::File;
 use std::io;
 use std::io::Read;
@@ -30,20 +31,22 @@ fn main(rt: HostRuntime) -> io::Result<()> {
     let mut recipe = [0u8; 12305];
     let mut policy = [0u8; 281];
     let mut memory = [0u8; 5441];
-    let mut records = [0u8; 320];
+    let mut room = [0u8; 320];
     let r = load(&rt, "recipe.bin", &mut recipe);
     let p = load(&rt, "policy.bin", &mut policy);
     let m = load(&rt, "memory.bin", &mut memory);
-    let o = machine::judge(
+    let Outcome {
+        end,
+        steps,
+        records,
+    } = machine::judge(
         &recipe[..r],
         &policy[..p],
         &mut memory[..m],
-        &mut records,
+        &mut room,
         10000,
     );
-    let end = ends::end_number(o.end);
-    let place = ends::end_place(o.end);
-    let steps = o.steps;
-    let records = o.records;
-    println!(rt; "{end} {place} {steps} {records}")
+    let number = ends::end_number(end);
+    let place = ends::end_place(end);
+    println!(rt; "{number} {place} {steps} {records}")
 }
