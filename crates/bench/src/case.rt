@@ -3,7 +3,7 @@
 use crate::buffer::Buffer;
 use crate::record::{ExprKind, StmtKind, binary_number, unary_number};
 use crate::report::Report;
-use rules::{BinaryOp, UnaryOp};
+use rules::{BinaryOp, End, UnaryOp};
 
 // There is room for a recipe of 514 records, a policy of 17 tags, 8 places of memory and 8 records. `report` is there where
 // the example goes through the C host's entry. `after` and `written` are the memory and the record room as they must be left.
@@ -46,7 +46,10 @@ pub fn unions() -> Buffer<300> {
 
 // The library's house policy, and the number of what came of it.
 pub fn house_policy(out: &mut [u8]) -> u32 {
-    policy::house_policy(out)
+    match policy::house_policy(out) {
+        Ok(()) => 0,
+        Err(x) => ends::end_number(End::Refused(x)),
+    }
 }
 
 // A recipe's header; the records follow.
