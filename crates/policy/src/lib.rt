@@ -92,7 +92,6 @@ fn check_entries(p: &[u8]) -> Checked
     Ok(())
 }
 
-// Grouped so that no two ways meet before the answer, and each keeps what it has tested.
 #[tactic(auto, unfolding(crate::specs::Laws::pair_laws))]
 fn pair_ok(p: &[u8], t: u8, u: u8) -> bool
     requires { (Filled p.now) × (t < byte p.now 6) × (u < byte p.now 6) }

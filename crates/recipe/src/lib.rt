@@ -1,5 +1,4 @@
 // The check of a recipe by itself (16 to 22), and of its ports against a policy (26).
-// Three tests are grouped `a && (b && c)`: so no two ways meet before the answer, and each keeps what it has tested.
 #![tactic(auto)]
 
 ghost use Rattle.std.specs.Prelude.{◌≡◌, ◌+◌, ◌*◌, ◌≤◌, length};
