@@ -3,7 +3,7 @@
 use crate::buffer::Buffer;
 use crate::record::{ExprKind, StmtKind, binary_number, unary_number};
 use crate::report::Report;
-use rules::{BinaryOp, End, UnaryOp};
+use rules::{BinaryOp, UnaryOp};
 
 // There is room for a recipe of 514 records, a policy of 17 tags, 8 places of memory and 8 records. `report` is there where
 // the example goes through the C host's entry. `after` and `written` are the memory and the record room as they must be left.
@@ -42,14 +42,6 @@ pub fn unions() -> Buffer<300> {
     }
     p.push(&[0, 15]);
     p
-}
-
-// The library's house policy, and the number of what came of it.
-pub fn house_policy(out: &mut [u8]) -> u32 {
-    match policy::house_policy(out) {
-        Ok(()) => 0,
-        Err(x) => ends::end_number(End::Refused(x)),
-    }
 }
 
 // A recipe's header; the records follow.
@@ -153,7 +145,7 @@ impl Case {
 
     pub fn house(mut self) -> Case {
         self.policy.len = 266;
-        house_policy(self.policy.lent_mut());
+        vraduceni::vraduceni_house_policy(self.policy.lent_mut());
         self
     }
 

@@ -1,6 +1,6 @@
 // Tries the examples, compares what comes back with what document 01 says, and prints a line for each.
 use crate::buffer::Buffer;
-use crate::case::{Case, house_policy, unions};
+use crate::case::{Case, unions};
 use crate::report::Report;
 use std::io;
 use std::io::Write;
@@ -65,7 +65,7 @@ impl<W: Write> Tally<W> {
     // The house policy into a buffer of n bytes; 0 writes it, and nothing is written for 29.
     pub fn housed(&mut self, name: &str, n: usize, number: u32) {
         let mut out = Buffer::lending(n);
-        let got = house_policy(out.lent_mut());
+        let got = vraduceni::vraduceni_house_policy(out.lent_mut());
         let want = if number == 0 { unions() } else { Buffer::new() };
         let same_bytes = out.bytes == want.bytes;
         self.counted(name, Report::alone(got), Report::alone(number), same_bytes);

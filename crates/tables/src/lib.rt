@@ -7,7 +7,7 @@ ghost use Rattle.rules.specs.Recipe.{unary_expr, binary_expr, expr_of, stmt_of, 
 
 use rules::{BinaryOp, Expr, Stmt, UnaryOp};
 
-// A byte as a wider number: the bound goes with it, so that sums of these need no further proof.
+// A byte as a wider number, with its bound.
 pub fn wide(x: u8) -> usize
     ensures { (result ≡ x) × (result < 256) }
 {
