@@ -1,12 +1,13 @@
 -- The value of an expression follows from its record in the tables and its operands' answers. Assumes nothing.
 use Prim.Native.Nat.{ℕ, zero, suc, ◌+◌, ◌-◌, ◌*◌, ◌<◌, ◌≤◌}
+use native.Mathlib.Decide.{dec_lt}
 use native.Mathlib.Omega.{arith}
 use mathlib.Core.Path.{◌≡◌, refl, sym, ap, ◌∙◌}
 use mathlib.Core.Bool.{Bool, true, false, false≢true, ◌&&◌}
 use mathlib.Core.List.{List, [], ◌∷◌}
 use lib.Dec.{ltb}
 use lib.ListN.{get_or}
-use borrow.Author.Tests.{ltb-true}
+use borrow.Author.Tests.{ltb-true, lt-ltb, le-ltb}
 use Rattle.rules.specs.declared.UnaryOp.{UnaryOp}
 use Rattle.rules.specs.declared.UnaryOp.TheVariants.{Negate, Not, Absolute}
 use Rattle.rules.specs.declared.BinaryOp.{BinaryOp}
@@ -26,11 +27,11 @@ use Rattle.rules.specs.Accepted.{ExprOk}
 use Rattle.rules.proofs.Depth.{eval_is}
 use Rattle.rules.proofs.Standing.{proper}
 use Rattle.layout.specs.Tables.{leaf, place_of, flat, code_of, operand_of, operator_of, left_of, right_of, unary_number, binary_number, unary_from, binary_from}
-use Rattle.layout.specs.Places.{place_in, held_in, ConstantAs, Ready, value_in}
+use Rattle.layout.specs.Places.{place_in, held_in, ConstantAs, Ready, value_in, Answered}
 use Rattle.layout.specs.Answers.{answer_of, worth_of}
 use Rattle.layout.proofs.Places.{place_held, sound_ready, places_ready}
 use Rattle.layout.proofs.Answers.{unary_range, binary_range, Worthy, Faulty, is_worth, is_fault}
-use Rattle.eval.specs.Packed.{word_in, tag_in, unary_in, binary_in, cell_in, cell_place, CellAsked, applied_in, Applies}
+use Rattle.eval.specs.Packed.{word_in, tag_in, opened_of, unary_in, binary_in, cell_in, cell_place, CellAsked, applied_in, Applies}
 
 module _ {r p t u : List ℕ} (a : Ready r p t u) where
   abbrev P : Policy
@@ -244,6 +245,22 @@ module _ {r p t u : List ℕ} (a : Ready r p t u) where
   faulty : (i : ℕ) {x : ℕ} → x ≡ answer_of (value_in r p u i) → 9223372036854775808 ≤ x → Faulty x (value_in r p u i)
   faulty i = is_fault a.policy.few_tags (proper (sound_ready a) (places_ready a) i)
 
+  -- an answer, opened, is the value
+  module _ {e x : ℕ} (there : e < R.exprs) (f : Answered t u e x) where
+    pub opens_given : x < 9223372036854775808 → tag_in x < 256
+    opens_given l = omega (arith, (worthy e (f r p a there) l).good, a.policy.few_tags)
+
+    pub opens : opened_of x ≡ value_in r p u e
+    unfolding given
+    opens = by (dec_lt x 9223372036854775808)
+      where
+        by : Dec (x < 9223372036854775808) → opened_of x ≡ value_in r p u e
+        by (yes l) = rw (lt-ltb x 9223372036854775808 l) (sym (worthy e (f r p a there) l).is)
+        by (no n) =
+            let h : 9223372036854775808 ≤ x = omega (arith, n) in
+            let w = faulty e (f r p a there) h in
+            rw (le-ltb x 9223372036854775808 h, w.back) (sym w.is)
+
   place_worth : (l : ℕ) → tag_in (get_or u l 0) < byte p 6 → Worthy P (get_or u l 0) (Ok (place_in u l))
   place_worth l h = record { is = refl; good = h }
 
@@ -325,6 +342,9 @@ module _ {r p t u : List ℕ} (a : Ready r p t u) where
       pub right_place : right < 2112
       right_place = shape.right_there
 
+      left_good_at : tag_in (get_or u left 0) < byte p 6
+      left_good_at = shape.left_good
+
       left_worth : Worthy P (get_or u left 0) (Ok (place_in u left))
       left_worth = place_worth left shape.left_good
 
@@ -344,6 +364,13 @@ module _ {r p t u : List ℕ} (a : Ready r p t u) where
       pub leaf_value : get_or u left 0 ≡ answer_of (value_in r p u e)
       unfolding applied_in
       leaf_value = flat_value (omega (arith, h)) (rw h refl)
+
+      -- a leaf is no fault
+      pub leaf_worth : {x : ℕ} → x ≡ answer_of (value_in r p u e) → Worthy P x (value_in r p u e)
+      leaf_worth f = worthy e f (omega (arith, f ∙ sym leaf_value, left_good_at (omega (arith, h)), a.policy.few_tags))
+
+      pub leaf_given : {x : ℕ} → x ≡ answer_of (value_in r p u e) → tag_in x < 256
+      leaf_given f = omega (arith, (leaf_worth f).good, a.policy.few_tags)
 
     module _ (h : 16 ≤ code) where
       abbrev form : Deep e code left right (value_in r p u e)

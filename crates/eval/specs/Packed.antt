@@ -1,11 +1,11 @@
 -- The operators on packed answers x and y: value + 2^32 tag each. Assumes nothing.
-use Rattle.std.specs.Prelude.{ℕ, ◌+◌, ◌/◌, ◌%◌, ◌<◌, ◌≤◌, ◌≡◌, List, [], ◌∷◌, ltb, get_or, Ok}
+use Rattle.std.specs.Prelude.{ℕ, ◌+◌, ◌-◌, ◌/◌, ◌%◌, ◌<◌, ◌≤◌, ◌≡◌, List, [], ◌∷◌, ltb, get_or, Ok}
 use Rattle.rules.specs.declared.Stop.TheVariants.{Index, Divisor}
 use Rattle.rules.specs.Operators.{unary, binary, divides}
 use Rattle.rules.specs.Memory.{◌#◌}
-use Rattle.rules.specs.Steps.{given}
+use Rattle.rules.specs.Steps.{Valued, given}
 use Rattle.layout.specs.Tables.{unary_from, binary_from, join_in}
-use Rattle.layout.specs.Answers.{answer_of}
+use Rattle.layout.specs.Answers.{answer_of, worth_of, stop_from}
 
 -- the tag and the word of a packed answer
 abbrev pub tag_in : ℕ → ℕ
@@ -13,6 +13,10 @@ tag_in x = x / 4294967296
 
 abbrev pub word_in : ℕ → ℕ
 word_in x = x % 4294967296
+
+-- a packed answer, opened
+abbrev pub opened_of : ℕ → Valued
+opened_of x = given (ltb x 9223372036854775808) (stop_from (x - 9223372036854775808)) (Ok (worth_of x))
 
 abbrev pub unary_in : (k x : ℕ) → ℕ
 unary_in k x = answer_of (Ok (unary (unary_from k) (word_in x) # tag_in x))

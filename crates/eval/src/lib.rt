@@ -1,14 +1,14 @@
-// Evaluation over the decoded tables t and the places u: an expression's value with its tag, or the fault that ends the run, as
-// one word, so that it stays in a register. A place is held as such a word too.
+// Evaluation over the decoded tables t and the places u: an expression's value with its tag, or the fault that ends the run.
+// Within this crate it is one word, so that it stays in a register; `value` opens it. A place is held as such a word too.
 #![tactic(auto)]
 
 ghost use Rattle.std.specs.Prelude.{◌≡◌, ◌+◌, ◌-◌, ◌*◌, ◌/◌, ◌%◌, ◌<◌, ◌≤◌, get_or};
 ghost use Rattle.layout.specs.Tables.{join_in};
-ghost use Rattle.layout.specs.Places.{ExprGiven, Answered};
-ghost use Rattle.layout.specs.Answers.{stop_from};
-ghost use Rattle.eval.specs.Packed.{tag_in, cell_in, applied_in, CellAsked, Applies};
+ghost use Rattle.layout.specs.Places.{ExprGiven, Answered, Evaluated};
+ghost use Rattle.layout.specs.Answers.{worth_of, stop_from};
+ghost use Rattle.eval.specs.Packed.{tag_in, opened_of, cell_in, applied_in, CellAsked, Applies};
 
-use rules::Stop;
+use rules::{Place, Stop};
 
 // From here on an answer is a fault, whose number is counted from here.
 pub const FAULT: u64 = 9223372036854775808;
@@ -50,6 +50,26 @@ pub fn answer(w: u32, g: u32) -> u64
     ensures { result ≡ w + 4294967296 * g }
 {
     (w as u64) + 4294967296 * (g as u64)
+}
+
+fn place_of(x: u64) -> Place
+    requires { tag_in x < 256 }
+    ensures { result ≡ worth_of x }
+{
+    Place {
+        value: word_of(x),
+        tag: tag_of(x) as u8,
+    }
+}
+
+fn opened(x: u64) -> Result<Place, Stop>
+    requires { x < 9223372036854775808 → tag_in x < 256 }
+    ensures { result ≡ opened_of x }
+{
+    if FAULT <= x {
+        return Err(stop_of(x));
+    }
+    Ok(place_of(x))
 }
 
 // ---- tags and places
@@ -192,16 +212,17 @@ fn deep(t: &[u16; 8466], u: &[u64; 2112], e: usize) -> u64
     apply(t, u, k, x, y)
 }
 
-// The same as operand, but no part of the recursion, so that it costs its callers no saved registers.
-pub fn value(t: &[u16; 8466], u: &[u64; 2112], e: usize) -> u64
+// Like operand, but no part of the recursion, so that it costs its callers no saved registers. A leaf is never a fault.
+pub fn value(t: &[u16; 8466], u: &[u64; 2112], e: usize) -> Result<Place, Stop>
     requires { ExprGiven t.now u.now e }
-    ensures { Answered t.now u.now e result }
+    ensures { Evaluated t.now u.now e result }
 {
     if t[4 * e] == 0 {
-        return leaf(t, u, e);
+        return Ok(place_of(leaf(t, u, e)));
     }
-    if t[4 * e] < 16 {
-        return flat(t, u, e);
-    }
-    deep(t, u, e)
+    opened(if t[4 * e] < 16 {
+        flat(t, u, e)
+    } else {
+        deep(t, u, e)
+    })
 }

@@ -49,6 +49,10 @@ value_in r p u e = eval (policy_of p) (recipe_of r) (held_in (recipe_of r) u) e
 abbrev pub Answered : (t u : List ℕ) (e x : ℕ) → Type 0
 Answered t u e x = (r p : List ℕ) → Ready r p t u → e < (recipe_of r).exprs → x ≡ answer_of (value_in r p u e)
 
+-- x is the value of expression e, or its fault, for all accepted tables that t and u hold
+abbrev pub Evaluated : (t u : List ℕ) (e : ℕ) → Valued → Type 0
+Evaluated t u e x = (r p : List ℕ) → Ready r p t u → e < (recipe_of r).exprs → x ≡ value_in r p u e
+
 -- there are accepted tables that t and u hold, and e is one of their expressions
 pub record ExprGiven (t u : List ℕ) (e : ℕ) : Type 0 where
   pub recipe : List ℕ
