@@ -24,68 +24,56 @@ use Rattle.layout.specs.Answers.{answer_of, worth_of}
 use Rattle.steps.specs.Asks.{Written, Done}
 use Rattle.steps.proofs.Asked.{test_true, test_false, join_is, join_good, clearance_is, clearance_good, lies_under, lies_off}
 
-pub worth_tag : (x : ℕ) {n : ℕ} → x / 4294967296 < n → tag_of (worth_of x) < n
-unfolding tag_of
-worth_tag x h = h
-
-pub worth_word : (x : ℕ) → value_of (worth_of x) < 2 ^ 32
-unfolding value_of
-worth_word x = omega arith
-
-pub worth_answer : (x : ℕ) → x ≡ answer_of (Ok (worth_of x))
-unfolding value_of tag_of
-worth_answer x = omega arith
-
 module _ (P : Policy) (R : Recipe) (m : Memory) (b : ℕ) {o : Valued} where
   pub did_as : (i : ℕ) (h : Written) (u v : List ℕ) (q : Place) → o ≡ Ok q → Done (assigns P R m b i (Ok q)) h u v → Done (assigns P R m b i o) h u v
   did_as i h u v q e d = rw e d
 
-  module _ (v : ℕ) {w : ℕ} (e : o ≡ Ok (worth_of v)) (q : w ≡ v % 4294967296) where
-    pub chooses_no : (a c : ℕ) → w ≡ 0 → chooses P R m b a c o ≡ Pushes (Join b) c (P.join b (v / 4294967296))
+  module _ (v : Place) (e : o ≡ Ok v) where
+    pub chooses_no : (a c : ℕ) → v.value ≡ 0 → chooses P R m b a c o ≡ Pushes (Join b) c (P.join b v.tag)
     unfolding value_of tag_of
-    chooses_no a c z = rw (e, test_false q z a c)
+    chooses_no a c z = rw (e, test_false z a c)
 
-    pub chooses_yes : (a c : ℕ) → (w ≡ 0 → ⊥) → chooses P R m b a c o ≡ Pushes (Join b) a (P.join b (v / 4294967296))
+    pub chooses_yes : (a c : ℕ) → (v.value ≡ 0 → ⊥) → chooses P R m b a c o ≡ Pushes (Join b) a (P.join b v.tag)
     unfolding value_of tag_of
-    chooses_yes a c n = rw (e, test_true q n a c)
+    chooses_yes a c n = rw (e, test_true n a c)
 
-    pub loops_no : (s a : ℕ) → w ≡ 0 → loops P R m b s a o ≡ Passes
+    pub loops_no : (s a : ℕ) → v.value ≡ 0 → loops P R m b s a o ≡ Passes
     unfolding value_of tag_of
-    loops_no s a z = rw (e, test_false q z (Pushes (Loop s b) a (P.join b (v / 4294967296))) Passes)
+    loops_no s a z = rw (e, test_false z (Pushes (Loop s b) a (P.join b v.tag)) Passes)
 
-    pub loops_yes : (s a : ℕ) → (w ≡ 0 → ⊥) → loops P R m b s a o ≡ Pushes (Loop s b) a (P.join b (v / 4294967296))
+    pub loops_yes : (s a : ℕ) → (v.value ≡ 0 → ⊥) → loops P R m b s a o ≡ Pushes (Loop s b) a (P.join b v.tag)
     unfolding value_of tag_of
-    loops_yes s a n = rw (e, test_true q n (Pushes (Loop s b) a (P.join b (v / 4294967296))) Passes)
+    loops_yes s a n = rw (e, test_true n (Pushes (Loop s b) a (P.join b v.tag)) Passes)
 
-    pub tests_no : (a : ℕ) → w ≡ 0 → tests P R m b a o ≡ Leaves
+    pub tests_no : (a : ℕ) → v.value ≡ 0 → tests P R m b a o ≡ Leaves
     unfolding value_of tag_of
-    tests_no a z = rw (e, test_false q z (Repeats a (P.join b (v / 4294967296))) Leaves)
+    tests_no a z = rw (e, test_false z (Repeats a (P.join b v.tag)) Leaves)
 
-    pub tests_yes : (a : ℕ) → (w ≡ 0 → ⊥) → tests P R m b a o ≡ Repeats a (P.join b (v / 4294967296))
+    pub tests_yes : (a : ℕ) → (v.value ≡ 0 → ⊥) → tests P R m b a o ≡ Repeats a (P.join b v.tag)
     unfolding value_of tag_of
-    tests_yes a n = rw (e, test_true q n (Repeats a (P.join b (v / 4294967296))) Leaves)
+    tests_yes a n = rw (e, test_true n (Repeats a (P.join b v.tag)) Leaves)
 
-    pub emits_no : (port : ℕ) → under P (P.join b (v / 4294967296)) (P.clearance port) ≡ false → emits P R m b port o ≡ Stops EmitTag
+    pub emits_no : (port : ℕ) → under P (P.join b v.tag) (P.clearance port) ≡ false → emits P R m b port o ≡ Stops EmitTag
     unfolding value_of tag_of allow
     emits_no port f = rw (e, f)
 
-    pub emits_yes : (port : ℕ) → under P (P.join b (v / 4294967296)) (P.clearance port) ≡ true → emits P R m b port o ≡ Records port w
+    pub emits_yes : (port : ℕ) → under P (P.join b v.tag) (P.clearance port) ≡ true → emits P R m b port o ≡ Records port v.value
     unfolding value_of tag_of allow
-    emits_yes port f = rw (e, f, q)
+    emits_yes port f = rw (e, f)
 
 -- ---- emission
 
-module _ {r p t u : List ℕ} (a : Ready r p t u) (v : ℕ) {b port : ℕ} (hb : b < byte p 6) (hp : port < byte p 7) (hv : v / 4294967296 < byte p 6) where
-  pub emit_given : (b < 16) × (v / 4294967296 < 16) × (join_in t b (v / 4294967296) < 16) × (port < 16) × (get_or t (8448 + port) 0 < 16)
+module _ {r p t u : List ℕ} (a : Ready r p t u) (v : Place) {b port : ℕ} (hb : b < byte p 6) (hp : port < byte p 7) (hv : v.tag < byte p 6) where
+  pub emit_given : (b < 16) × (v.tag < 16) × (join_in t b v.tag < 16) × (port < 16) × (get_or t (8448 + port) 0 < 16)
   emit_given =
       let few = a.policy.few_tags in
       (omega (arith, few), omega (arith, few), omega (arith, few, join_good a hb hv refl), omega (arith, a.policy.few_ports), omega (arith, few, clearance_good a hp))
 
-  module _ {d : Bool} (q : d ≡ eqb (join_in t (join_in t b (v / 4294967296)) (get_or t (8448 + port) 0)) (get_or t (8448 + port) 0)) where
-    pub emit_on : d ≡ true → under (policy_of p) ((policy_of p).join b (v / 4294967296)) ((policy_of p).clearance port) ≡ true
+  module _ {d : Bool} (q : d ≡ eqb (join_in t (join_in t b v.tag) (get_or t (8448 + port) 0)) (get_or t (8448 + port) 0)) where
+    pub emit_on : d ≡ true → under (policy_of p) ((policy_of p).join b v.tag) ((policy_of p).clearance port) ≡ true
     emit_on e =
         rw (join_is a hb hv refl, clearance_is a hp) at (lies_under a (join_good a hb hv refl) (clearance_good a hp) refl (eqb-true _ _ (sym q ∙ e)))
 
-    pub emit_off : d ≡ false → under (policy_of p) ((policy_of p).join b (v / 4294967296)) ((policy_of p).clearance port) ≡ false
+    pub emit_off : d ≡ false → under (policy_of p) ((policy_of p).join b v.tag) ((policy_of p).clearance port) ≡ false
     emit_off e =
         rw (join_is a hb hv refl, clearance_is a hp) at (lies_off a (join_good a hb hv refl) (clearance_good a hp) refl (eqb-false _ _ (sym q ∙ e)))

@@ -6,7 +6,6 @@ ghost use Rattle.rules.specs.Judged.{outcome_of, written_back, ran, checks, judg
 ghost use Rattle.rules.specs.Accepted.{Accepted};
 ghost use Rattle.machine.specs.Turns.{LeftAs, RunGiven, RunLeaves};
 
-use eval::FAULT;
 use rules::{Checked, End, Outcome, Refusal, Stop};
 
 // The kinds of frames, beside the statements' kinds 0 to 6.
@@ -95,10 +94,10 @@ fn run(t: &[u16; 8466], u: &mut [u64; 2112], limit: usize, q: &mut [u8], budget:
                 s = stmt_in(w);
             }
             1 => {
-                let v = eval::value(t, u, named(t, s, 2));
-                if FAULT <= v {
-                    return stopped(eval::stop_of(v), s, step + 1, records);
-                }
+                let v = match eval::value(t, u, named(t, s, 2)) {
+                    Ok(v) => v,
+                    Err(h) => return stopped(h, s, step + 1, records),
+                };
                 if let Err(h) = steps::assign(t, u, tag, named(t, s, 1), v) {
                     return stopped(h, s, step + 1, records);
                 }
@@ -124,17 +123,17 @@ fn run(t: &[u16; 8466], u: &mut [u64; 2112], limit: usize, q: &mut [u8], budget:
                 kind = kind_at(t, s);
             }
             4 => {
-                let v = eval::value(t, u, named(t, s, 1));
-                if FAULT <= v {
-                    return stopped(eval::stop_of(v), s, step + 1, records);
-                }
+                let v = match eval::value(t, u, named(t, s, 1)) {
+                    Ok(v) => v,
+                    Err(h) => return stopped(h, s, step + 1, records),
+                };
                 if limit <= depth {
                     return stopped(Stop::Frames, s, step + 1, records);
                 }
                 depth = depth + 1;
                 x.stack[depth] = frame_word(JOIN, 0, tag);
-                tag = eval::join(t, tag, eval::tag_of(v));
-                if eval::word_of(v) == 0 {
+                tag = eval::join(t, tag, u32::from(v.tag));
+                if v.value == 0 {
                     s = named(t, s, 3);
                     kind = kind_at(t, s);
                 } else {
@@ -143,11 +142,11 @@ fn run(t: &[u16; 8466], u: &mut [u64; 2112], limit: usize, q: &mut [u8], budget:
                 }
             }
             5 => {
-                let v = eval::value(t, u, named(t, s, 1));
-                if FAULT <= v {
-                    return stopped(eval::stop_of(v), s, step + 1, records);
-                }
-                if eval::word_of(v) == 0 {
+                let v = match eval::value(t, u, named(t, s, 1)) {
+                    Ok(v) => v,
+                    Err(h) => return stopped(h, s, step + 1, records),
+                };
+                if v.value == 0 {
                     let w = x.stack[depth];
                     kind = kind_in(w);
                     s = stmt_in(w);
@@ -157,16 +156,16 @@ fn run(t: &[u16; 8466], u: &mut [u64; 2112], limit: usize, q: &mut [u8], budget:
                     }
                     depth = depth + 1;
                     x.stack[depth] = frame_word(LOOP, s, tag);
-                    tag = eval::join(t, tag, eval::tag_of(v));
+                    tag = eval::join(t, tag, u32::from(v.tag));
                     s = named(t, s, 2);
                     kind = kind_at(t, s);
                 }
             }
             6 => {
-                let v = eval::value(t, u, named(t, s, 1));
-                if FAULT <= v {
-                    return stopped(eval::stop_of(v), s, step + 1, records);
-                }
+                let v = match eval::value(t, u, named(t, s, 1)) {
+                    Ok(v) => v,
+                    Err(h) => return stopped(h, s, step + 1, records),
+                };
                 let port = named(t, s, 2);
                 if !steps::may_emit(t, tag, port, v) {
                     return stopped(Stop::EmitTag, s, step + 1, records);
@@ -175,7 +174,7 @@ fn run(t: &[u16; 8466], u: &mut [u64; 2112], limit: usize, q: &mut [u8], budget:
                 if q.len() < o + 5 {
                     return stopped(Stop::Room, s, step + 1, records);
                 }
-                memory::put_record(q, o, port as u8, eval::word_of(v));
+                memory::put_record(q, o, port as u8, v.value);
                 records = records + 1;
                 let w = x.stack[depth];
                 kind = kind_in(w);
@@ -193,18 +192,18 @@ fn run(t: &[u16; 8466], u: &mut [u64; 2112], limit: usize, q: &mut [u8], budget:
                 s = stmt_in(w);
             }
             9 => {
-                let v = eval::value(t, u, named(t, s, 1));
-                if FAULT <= v {
-                    return stopped(eval::stop_of(v), s, step + 1, records);
-                }
-                if eval::word_of(v) == 0 {
+                let v = match eval::value(t, u, named(t, s, 1)) {
+                    Ok(v) => v,
+                    Err(h) => return stopped(h, s, step + 1, records),
+                };
+                if v.value == 0 {
                     tag = x.stack[depth] % 16;
                     depth = depth - 1;
                     let w = x.stack[depth];
                     kind = kind_in(w);
                     s = stmt_in(w);
                 } else {
-                    tag = eval::join(t, tag, eval::tag_of(v));
+                    tag = eval::join(t, tag, u32::from(v.tag));
                     s = named(t, s, 2);
                     kind = kind_at(t, s);
                 }

@@ -1,5 +1,5 @@
 -- How what is done follows from answers, tags and tests on the decoded tables. Assumes nothing.
-use Prim.Native.Nat.{ℕ, zero, suc, ◌+◌, ◌-◌, ◌/◌, ◌%◌, ◌^◌, ◌<◌, ◌≤◌}
+use Prim.Native.Nat.{ℕ, zero, suc, ◌+◌, ◌/◌, ◌<◌, ◌≤◌}
 use native.Mathlib.Omega.{arith}
 use mathlib.Core.Path.{◌≡◌, refl, sym, ◌∙◌}
 use mathlib.Core.Bool.{true, false}
@@ -8,50 +8,32 @@ use lib.Dec.{ltb}
 use lib.ListN.{get_or}
 use borrow.Author.Tests.{le-ltb, lt-ltb}
 use Rattle.rules.specs.declared.Place.{Place}
-use Rattle.std.specs.Prelude.{Ok, Err}
+use Rattle.std.specs.Prelude.{Ok}
 use Rattle.rules.specs.Bytes.{byte}
-use Rattle.rules.specs.Policy.{policy_of, under}
+use Rattle.rules.specs.Policy.{Policy, policy_of, under}
 use Rattle.rules.specs.Recipe.{recipe_of}
-use Rattle.rules.specs.Memory.{value_of, tag_of, place_at, count}
-use Rattle.rules.specs.Steps.{test}
-use Rattle.rules.proofs.Standing.{Proper, proper}
+use Rattle.rules.specs.Memory.{tag_of, place_at, count}
+use Rattle.rules.specs.Steps.{Valued, test}
+use Rattle.rules.proofs.Standing.{Proper, value, proper}
 use Rattle.rules.proofs.Tags.{is_under, under_is}
 use Rattle.rules.proofs.Tests.{fails}
 use Rattle.layout.specs.Tables.{join_in}
-use Rattle.layout.specs.Places.{Ready, held_in, value_in, Answered}
-use Rattle.layout.specs.Answers.{answer_of, stop_from, worth_of}
+use Rattle.layout.specs.Places.{Ready, held_in, value_in, Evaluated}
 use Rattle.layout.proofs.Places.{sound_ready, places_ready, place_held}
-use Rattle.layout.proofs.Answers.{Worthy, Faulty, is_worth, is_fault}
 
 -- ---- answers
 
--- a place is read back from its answer
-module _ (q : Place) {v : ℕ} (l : value_of q < 2 ^ 32) (e : v ≡ answer_of (Ok q)) where
-  pub word_is : v % 4294967296 ≡ value_of q
-  word_is = omega arith
-
-  pub tag_is : v / 4294967296 ≡ tag_of q
-  tag_is = omega arith
+tag_good : {P : Policy} {v : Place} → Proper P (Ok v) → v.tag < P.tags
+unfolding tag_of
+tag_good (value k) = k.good
 
 module _ {r p t u : List ℕ} (a : Ready r p t u) where
-  module _ {e : ℕ} (h : e < (recipe_of r).exprs) {x : ℕ} (q : Answered t u e x) where
-    valued : Proper (policy_of p) (value_in r p u e)
-    valued = proper (sound_ready a) (places_ready a) e
+  module _ {e : ℕ} (h : e < (recipe_of r).exprs) {x : Valued} (q : Evaluated t u e x) where
+    pub value_found : value_in r p u e ≡ x
+    value_found = sym (q r p a h)
 
-    found : x < 9223372036854775808 → Worthy (policy_of p) x (value_in r p u e)
-    found = is_worth a.policy.few_tags valued (q r p a h)
-
-    pub value_found : x < 9223372036854775808 → value_in r p u e ≡ Ok (worth_of x)
-    value_found l = (found l).is
-
-    pub tag_found : x < 9223372036854775808 → x / 4294967296 < byte p 6
-    tag_found l = (found l).good
-
-    pub value_lost : 9223372036854775808 ≤ x → Faulty x (value_in r p u e)
-    value_lost = is_fault a.policy.few_tags valued (q r p a h)
-
-    pub value_fault : 9223372036854775808 ≤ x → value_in r p u e ≡ Err (stop_from (x - 9223372036854775808))
-    value_fault l = rw (value_lost l).back (value_lost l).is
+    pub tag_found : {v : Place} → x ≡ Ok v → v.tag < byte p 6
+    tag_found k = tag_good (rw (value_found ∙ k) at (proper (sound_ready a) (places_ready a) e))
 
   -- ---- places
 
@@ -63,19 +45,18 @@ module _ {r p t u : List ℕ} (a : Ready r p t u) where
       let few = a.recipe.counts in
       omega (arith, few.few_vars, few.few_cells)
 
-  module _ {w n : ℕ} (q : w ≡ n) where
-    pub index_off : get_or t 8465 0 ≤ w → ltb n (recipe_of r).cells ≡ false
+  pub cell_is : (n : ℕ) → get_or t 8464 0 + n ≡ (recipe_of r).vars + n
+  cell_is n = omega (arith, a.decoded.vars_as)
+
+  module _ {n : ℕ} where
+    pub index_off : get_or t 8465 0 ≤ n → ltb n (recipe_of r).cells ≡ false
     index_off h = le-ltb n (recipe_of r).cells (omega (arith, a.decoded.cells_as))
 
-    pub index_in : w < get_or t 8465 0 → ltb n (recipe_of r).cells ≡ true
+    pub index_in : n < get_or t 8465 0 → ltb n (recipe_of r).cells ≡ true
     index_in h = lt-ltb n (recipe_of r).cells (omega (arith, a.decoded.cells_as))
 
-    pub cell_is : get_or t 8464 0 + w ≡ (recipe_of r).vars + n
-    cell_is = omega (arith, a.decoded.vars_as)
-
-    -- the index was held against the number of cells as v
-    pub cell_in_lem : {v : ℕ} → v ≡ n → v < get_or t 8465 0 → get_or t 8464 0 + w < count (recipe_of r)
-    cell_in_lem e h = omega (arith, a.decoded.vars_as, a.decoded.cells_as)
+    pub cell_in_lem : n < get_or t 8465 0 → get_or t 8464 0 + n < count (recipe_of r)
+    cell_in_lem h = omega (arith, a.decoded.vars_as, a.decoded.cells_as)
 
   -- ---- tags
 
@@ -129,13 +110,13 @@ same_below q h = rw q h
 
 -- ---- tests
 
--- a value, held as w, that is not zero is true
-pub test_true : {A : Type 0} {w v : ℕ} → w ≡ v → (w ≡ 0 → ⊥) → (x y : A) → test v x y ≡ x
+-- a value that is not zero is true
+pub test_true : {A : Type 0} {v : ℕ} → (v ≡ 0 → ⊥) → (x y : A) → test v x y ≡ x
 unfolding test
-test_true {v = zero} q h x y = absurd (h q)
-test_true {v = suc v} q h x y = refl
+test_true {v = zero} h x y = absurd (h refl)
+test_true {v = suc v} h x y = refl
 
-pub test_false : {A : Type 0} {w v : ℕ} → w ≡ v → w ≡ 0 → (x y : A) → test v x y ≡ y
+pub test_false : {A : Type 0} {v : ℕ} → v ≡ 0 → (x y : A) → test v x y ≡ y
 unfolding test
-test_false {v = zero} q h x y = refl
-test_false {v = suc v} q h x y = absurd (omega arith)
+test_false {v = zero} h x y = refl
+test_false {v = suc v} h x y = absurd (omega arith)

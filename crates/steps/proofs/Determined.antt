@@ -1,19 +1,15 @@
 -- Each promise has one answer: any two results that it allows, where what it asks for holds, are equal, and so are the places.
 -- `Pre` and `Post` are the function's contract as the checker reads it. Assumes nothing.
-use Prim.Native.Nat.{ℕ, ◌/◌, ◌^◌, ◌<◌}
-use native.Mathlib.Omega.{arith}
+use Prim.Native.Nat.{ℕ}
 use mathlib.Core.Path.{◌≡◌, sym, ◌∙◌}
 use mathlib.Core.List.{List}
 use Rattle.rules.specs.declared.Act.{Act}
 use Rattle.rules.specs.declared.Act.TheVariants.{Passes, Pushes, Writes, Records, Stops}
 use Rattle.std.specs.Prelude.{Ok}
-use Rattle.rules.specs.Bytes.{byte}
 use Rattle.rules.specs.Policy.{policy_of}
 use Rattle.rules.specs.Recipe.{recipe_of}
-use Rattle.rules.specs.Memory.{value_of, tag_of}
 use Rattle.rules.specs.Steps.{assigns, stores}
 use Rattle.layout.specs.Places.{held_in, value_in}
-use Rattle.layout.specs.Answers.{answer_of, worth_of}
 use Rattle.steps.specs.Asks.{Written, Done}
 use Rattle.steps.proofs.assign.Reads as assign
 use Rattle.steps.proofs.store.Reads as store
@@ -26,29 +22,15 @@ done_one (Writes i q) u d e = (d.0 ∙ sym e.0, d.1 ∙ sym e.1)
 done_one (Records port w) u d e = absurd d
 done_one (Stops x) u d e = (d.0 ∙ sym e.0, d.1 ∙ sym e.1)
 
--- an answer is that of the place it is read as
-whole : (v : ℕ) → v ≡ answer_of (Ok (worth_of v))
-unfolding value_of tag_of
-whole v = omega arith
-
-short : (v : ℕ) → value_of (worth_of v) < 2 ^ 32
-unfolding value_of
-short v = omega arith
-
-marked : (v n : ℕ) → v / 4294967296 < n → tag_of (worth_of v) < n
-unfolding tag_of
-marked v n h = h
-
 pub assign_one : (κs : _) (a : _) (r s : _) (x y : _) → assign.Pre κs a → assign.Post κs a r x → assign.Post κs a s y
     → (r ≡ s) × (x.1.0.now ≡ y.1.0.now)
 assign_one κs a r s x y g p q =
     let u = a.1.0.now in
     let v = a.1.1.1.1.0 in
-    let act = assigns (policy_of g.policy) (recipe_of g.recipe) (held_in (recipe_of g.recipe) u) a.1.1.0 a.1.1.1.0 (Ok (worth_of v)) in
-    let tagged = marked v (byte g.policy 6) g.tagged in
+    let act = assigns (policy_of g.policy) (recipe_of g.recipe) (held_in (recipe_of g.recipe) u) a.1.1.0 a.1.1.1.0 (Ok v) in
     done_one act u
-    (p g.recipe g.policy (worth_of v) g.ready g.branch g.there tagged (short v) (whole v))
-    (q g.recipe g.policy (worth_of v) g.ready g.branch g.there tagged (short v) (whole v))
+    (p g.recipe g.policy g.ready g.branch g.there g.tagged)
+    (q g.recipe g.policy g.ready g.branch g.there g.tagged)
 
 pub store_one : (κs : _) (a : _) (r s : _) (x y : _) → store.Pre κs a → store.Post κs a r x → store.Post κs a s y
     → (r ≡ s) × (x.1.0.now ≡ y.1.0.now)

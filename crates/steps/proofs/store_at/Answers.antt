@@ -1,102 +1,57 @@
 -- The range comes before the tag, and the index's tag joins the branch tag. Assumes nothing.
 use mathlib.Core.Path.{refl}
 use Rattle.rules.specs.Memory.{value_of, tag_of}
-use Rattle.rules.specs.Ends.{stop_number}
 use Rattle.rules.specs.Steps.{allow}
 use Rattle.steps.proofs.Asked.{index_off, index_in, cell_is, cell_in_lem, held_given, held_good, join_given, join_is, join_good, held_under, held_off, same_below}
 use Rattle.steps.proofs.store_at.Goals as goal
 
-pub returns-then-t-word_of : goal.returns-then-t-word_of
-unfolding allow stop_number value_of tag_of
-returns-then-t-word_of c r p a b i v =
-    let word_of = c.word_of in
-    let if1 = c.if-t-word_of in
-    rw (index_off a word_of.ensures if1.true) (refl, refl)
+pub returns-then-t-x : goal.returns-then-t-x
+unfolding allow value_of tag_of
+returns-then-t-x c r p a b i v = rw (index_off a c.if-t-x.true) (refl, refl)
 
 pub join-b-requires : goal.join-b-requires
 join-b-requires c =
     let pre = c.requires in
-    let tag_of = c.tag_of in
-    join_given pre.ready pre.branch (same_below tag_of.ensures pre.indexed)
+    join_given pre.ready pre.branch (same_below c.from.ensures pre.indexed)
 
 pub tag_at-old-requires : goal.tag_at-old-requires
 tag_at-old-requires c =
-    let pre = c.requires in
-    let word-of2 = c.word_of-2 in
-    let word_of = c.word_of in
-    let if1 = c.if-t-word_of in
-    let there = cell_in_lem pre.ready word-of2.ensures word_of.ensures if1.false in
-    held_given pre.ready there
+    let ready = c.requires.ready in
+    held_given ready (cell_in_lem ready c.if-t-x.false)
 
 pub join-requires : goal.join-requires
 join-requires c =
     let pre = c.requires in
-    let word-of2 = c.word_of-2 in
-    let word_of = c.word_of in
-    let if1 = c.if-t-word_of in
-    let tag_of = c.tag_of in
-    let join = c.join-b in
-    let tag_at = c.tag_at-old in
-    let there = cell_in_lem pre.ready word-of2.ensures word_of.ensures if1.false in
-    let joined = join_good pre.ready pre.branch (same_below tag_of.ensures pre.indexed) join.ensures in
-    join_given pre.ready joined (held_good pre.ready there tag_at.ensures)
+    let joined = join_good pre.ready pre.branch pre.indexed (rw c.from.ensures at c.join-b.ensures) in
+    join_given pre.ready joined (held_good pre.ready (cell_in_lem pre.ready c.if-t-x.false) c.tag_at-old.ensures)
 
 pub returns-then-join-old : goal.returns-then-join-old
-unfolding allow stop_number value_of tag_of
+unfolding allow value_of tag_of
 returns-then-join-old c r p a b i v =
-    let tag_of = c.tag_of in
-    let word-of2 = c.word_of-2 in
-    let word_of = c.word_of in
-    let if1 = c.if-t-word_of in
-    let join = c.join-b in
-    let tag_at = c.tag_at-old in
-    let join2 = c.join in
-    let if2 = c.if-join-old in
-    let low = same_below tag_of.ensures i in
-    let there = cell_in_lem a word-of2.ensures word_of.ensures if1.false in
-    let joined = join_good a b low join.ensures in
-    let branch = join_is a b low join.ensures in
-    let tested = rw (branch, tag_of.ensures, cell_is a word-of2.ensures) at (held_off a joined there tag_at.ensures join2.ensures if2.true) in
-    rw (index_in a word_of.ensures if1.false, tested) (refl, refl)
+    let there = cell_in_lem a c.if-t-x.false in
+    let join = rw c.from.ensures at c.join-b.ensures in
+    let off = held_off a (join_good a b i join) there c.tag_at-old.ensures c.join.ensures c.if-join-old.true in
+    rw (index_in a c.if-t-x.false, rw (join_is a b i join, cell_is a c.args.x.value) at off) (refl, refl)
 
 pub join-g-requires : goal.join-g-requires
 join-g-requires c =
     let pre = c.requires in
-    let tag_of = c.tag_of in
-    let join = c.join-b in
-    let tag-of2 = c.tag_of-2 in
-    let joined = join_good pre.ready pre.branch (same_below tag_of.ensures pre.indexed) join.ensures in
-    join_given pre.ready joined (same_below tag-of2.ensures pre.tagged)
+    let joined = join_good pre.ready pre.branch pre.indexed (rw c.from.ensures at c.join-b.ensures) in
+    join_given pre.ready joined (same_below c.from-2.ensures pre.tagged)
 
 pub put_place-requires : goal.put_place-requires
 put_place-requires c =
-    let pre = c.requires in
-    let word-of2 = c.word_of-2 in
-    let word_of = c.word_of in
-    let if1 = c.if-t-word_of in
-    let there = cell_in_lem pre.ready word-of2.ensures word_of.ensures if1.false in
-    held_given pre.ready there
+    let ready = c.requires.ready in
+    held_given ready (cell_in_lem ready c.if-t-x.false)
 
 pub returns : goal.returns
 unfolding allow value_of tag_of
 returns c r p a b i v =
-    let tag_of = c.tag_of in
-    let word-of2 = c.word_of-2 in
-    let word_of = c.word_of in
-    let if1 = c.if-t-word_of in
-    let join = c.join-b in
-    let tag_at = c.tag_at-old in
-    let join2 = c.join in
-    let if2 = c.if-join-old in
-    let tag-of2 = c.tag_of-2 in
-    let join3 = c.join-g in
-    let word-of3 = c.word_of-3 in
-    let put-place = c.put_place in
-    let low = same_below tag_of.ensures i in
-    let there = cell_in_lem a word-of2.ensures word_of.ensures if1.false in
-    let joined = join_good a b low join.ensures in
-    let branch = join_is a b low join.ensures in
-    let tested = rw (branch, tag_of.ensures, cell_is a word-of2.ensures) at (held_under a joined there tag_at.ensures join2.ensures if2.false) in
-    let marked = join_is a joined (same_below tag-of2.ensures v) join3.ensures in
-    let done = rw (cell_is a word-of2.ensures, word-of3.ensures, marked, branch, tag_of.ensures, tag-of2.ensures) at put-place.ensures in
-    rw (index_in a word_of.ensures if1.false, tested) (refl, done)
+    let there = cell_in_lem a c.if-t-x.false in
+    let join = rw c.from.ensures at c.join-b.ensures in
+    let joined = join_good a b i join in
+    let branch = join_is a b i join in
+    let cell = cell_is a c.args.x.value in
+    let under = held_under a joined there c.tag_at-old.ensures c.join.ensures c.if-join-old.false in
+    let marked = join_is a joined v (rw c.from-2.ensures at c.join-g.ensures) in
+    rw (index_in a c.if-t-x.false, rw (branch, cell) at under) (refl, rw (cell, marked, branch) at c.put_place.ensures)
