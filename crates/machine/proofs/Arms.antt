@@ -1,5 +1,5 @@
 -- What a statement or a repeated test asks once its expression is evaluated. Assumes nothing.
-use Prim.Native.Nat.{ℕ, ◌+◌, ◌/◌, ◌%◌, ◌^◌, ◌<◌}
+use Prim.Native.Nat.{ℕ, ◌+◌, ◌<◌}
 use native.Mathlib.Omega.{arith}
 use mathlib.Core.Path.{◌≡◌, refl, sym, ◌∙◌}
 use mathlib.Core.Bool.{Bool, true, false}
@@ -20,7 +20,6 @@ use Rattle.rules.specs.Recipe.{Recipe}
 use Rattle.rules.specs.Memory.{Memory, value_of, tag_of}
 use Rattle.layout.specs.Tables.{join_in}
 use Rattle.layout.specs.Places.{Ready}
-use Rattle.layout.specs.Answers.{answer_of, worth_of}
 use Rattle.steps.specs.Asks.{Written, Done}
 use Rattle.steps.proofs.Asked.{test_true, test_false, join_is, join_good, clearance_is, clearance_good, lies_under, lies_off}
 

@@ -9,7 +9,7 @@ use mathlib.Core.List.{List, [], ◌∷◌}
 use lib.ListN.{length, get_or, set, length-set}
 use borrow.Author.Tests.{lt-ltb, le-ltb, le-leb, lt-leb}
 use Rattle.rules.specs.declared.Stop.{Stop}
-use Rattle.rules.specs.declared.Stop.TheVariants.{EmitTag, Room, Frames}
+use Rattle.rules.specs.declared.Stop.TheVariants.{Room, Frames}
 use Rattle.rules.specs.declared.Frame.{Frame}
 use Rattle.rules.specs.declared.Frame.TheVariants.{Next, Join, Loop}
 use Rattle.std.specs.Prelude.{Option, Some, None, Ok, Err}
@@ -35,10 +35,9 @@ use Rattle.rules.proofs.Reached.{standing_after}
 use Rattle.memory.specs.Layout.{recorded, Holds}
 use Rattle.memory.proofs.Records.{none_held, length_held, more_held}
 use Rattle.layout.specs.Places.{held_in, Ready}
-use Rattle.layout.specs.Answers.{answer_of, stop_from}
+use Rattle.layout.specs.Answers.{answer_of}
 use Rattle.layout.proofs.Places.{held_length, held_write, sound_ready, places_ready, ready_write}
-use Rattle.layout.proofs.Answers.{stop_back, worth_back}
-use Rattle.rules.specs.Ends.{stop_number}
+use Rattle.layout.proofs.Answers.{worth_back}
 use Rattle.steps.specs.Asks as asks
 use Rattle.steps.proofs.Statements.{stmt_from, stmt_is, stmt_ok_lem, port_ok_lem}
 use Rattle.machine.specs.Frames.{word_of, Held, none, more}

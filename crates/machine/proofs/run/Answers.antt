@@ -1,15 +1,13 @@
 -- What is left to run from the state that the loop holds is the whole run. Assumes nothing.
 use native.Mathlib.Omega.{arith}
-use mathlib.Core.Path.{◌≡◌, refl}
-use Prim.Native.Nat.{◌+◌, ◌-◌}
+use mathlib.Core.Path.{refl, ◌∙◌}
 use Rattle.rules.specs.Policy.{policy_of}
 use Rattle.rules.specs.Recipe.{recipe_of}
-use Rattle.layout.specs.Answers.{worth_of}
-use Rattle.steps.proofs.Asked.{value_found, value_fault, tag_found, join_is}
+use Rattle.steps.proofs.Asked.{value_found, tag_found, join_is}
 use Rattle.steps.proofs.Statements.{first_fits, second_fits, third_fits}
 use Rattle.machine.proofs.Frames.{kind_low}
 use Rattle.machine.proofs.Turns.{starts, depth_below, branch_low, held_now, branch_now, done, done_spent, spent, passes_on, fails_with, pushes_on, full, records_on, no_room, wrote_on, refused, there, asks_now, begun, act_fits, names, port_names, next_on, next_some, join_on, join_some, next_there, lower, some, loop_there, loop_names, repeats_on, leaves_on, fails_at}
-use Rattle.machine.proofs.Arms.{worth_tag, worth_word, worth_answer, did_as, chooses_no, chooses_yes, loops_no, loops_yes, tests_no, tests_yes, emits_no, emits_yes, emit_given, emit_on, emit_off}
+use Rattle.machine.proofs.Arms.{did_as, chooses_no, chooses_yes, loops_no, loops_yes, tests_no, tests_yes, emits_no, emits_yes, emit_given, emit_on, emit_off}
 use Rattle.machine.proofs.run.Goals as goal
 
 pub loop-step-init : goal.loop-step-init
@@ -38,8 +36,8 @@ named-requires c =
     let low = there g more (omega arith) c.in-1.is in
     (omega (arith, low, g.ready.recipe.counts.few_stmts), omega arith, second_fits g.ready low)
 
-pub value-v-requires : goal.value-v-requires
-value-v-requires c =
+pub value-requires : goal.value-requires
+value-requires c =
     let pre = c.requires in
     let loop = c.loop-step in
     let more = c.loop-step-test.true in
@@ -48,20 +46,19 @@ value-v-requires c =
     let parts = names g more (omega arith) c.in-1.is in
     record { recipe = pre.recipe; policy = pre.policy; ready = g.ready; there = rw named.ensures parts.1 }
 
-pub returns-then-v-ge-FAULT : goal.returns-then-v-ge-FAULT
-returns-then-v-ge-FAULT c =
+pub returns-in-Err : goal.returns-in-Err
+returns-in-Err c =
     let loop = c.loop-step in
     let more = c.loop-step-test.true in
     let named = c.named in
-    let value = c.value-v in
-    let if3 = c.if-v-ge-FAULT in
-    let stop-of = c.stop_of in
+    let value = c.value in
+    let err = c.in-Err in
     let stopped = c.stopped in
     λ r p a l. let g = loop.invariant r p a l in
     let parts = names g more (omega arith) c.in-1.is in
     let answer = rw named.ensures at value.ensures in
-    rw (stopped.ensures, stop-of.ensures) (fails_with g more (omega arith) c.in-1.is
-    (rw (value_fault g.ready parts.1 answer if3.true)))
+    rw stopped.ensures (fails_with g more (omega arith) c.in-1.is
+    (rw (value_found g.ready parts.1 answer ∙ err.is)))
 
 pub named-requires-in-1 : goal.named-requires-in-1
 named-requires-in-1 c =
@@ -78,13 +75,13 @@ assign-requires c =
     let loop = c.loop-step in
     let more = c.loop-step-test.true in
     let named = c.named in
-    let value = c.value-v in
-    let if3 = c.if-v-ge-FAULT in
+    let value = c.value in
+    let ok = c.in-Ok in
     let named2 = c.named-in-1 in
     let g = loop.invariant pre.recipe pre.policy pre.ready pre.limited in
     let parts = names g more (omega arith) c.in-1.is in
     let answer = rw named.ensures at value.ensures in
-    let tagged = tag_found g.ready parts.1 answer if3.false in
+    let tagged = tag_found g.ready parts.1 answer ok.is in
     record {
       recipe = pre.recipe;
       policy = pre.policy;
@@ -94,26 +91,25 @@ assign-requires c =
       tagged = tagged;
     }
 
-pub returns-in-Err : goal.returns-in-Err
-returns-in-Err c =
+pub returns-in-Err-assign : goal.returns-in-Err-assign
+returns-in-Err-assign c =
     let loop = c.loop-step in
     let more = c.loop-step-test.true in
     let named = c.named in
-    let value = c.value-v in
-    let if3 = c.if-v-ge-FAULT in
+    let value = c.value in
+    let ok = c.in-Ok in
     let named2 = c.named-in-1 in
     let assign = c.assign in
-    let stopped2 = c.stopped-in-Err in
+    let stopped2 = c.stopped-in-Err-assign in
     λ r p a l. let g = loop.invariant r p a l in
     let parts = names g more (omega arith) c.in-1.is in
     let now = begun g more (omega arith) c.in-1.is in
     let answer = rw named.ensures at value.ensures in
-    let found = value_found g.ready parts.1 answer if3.false in
-    let tagged = tag_found g.ready parts.1 answer if3.false in
+    let found = value_found g.ready parts.1 answer ∙ ok.is in
+    let tagged = tag_found g.ready parts.1 answer ok.is in
     rw stopped2.ensures (refused g more (asks_now g more (omega arith) c.in-1.is) now
-    (did_as (policy_of p) (recipe_of r) (held_now g) (branch_now g) _ _ _ _ (worth_of value.result) found
-    (rw named2.ensures at (assign.ensures r p (worth_of value.result) g.ready g.standing.branch (rw named2.ensures parts.0)
-    (worth_tag _ tagged) (worth_word _) (worth_answer _)))) c.in-Err.is)
+    (did_as (policy_of p) (recipe_of r) (held_now g) (branch_now g) _ _ _ _ ok.v found
+    (rw named2.ensures at (assign.ensures r p g.ready g.standing.branch (rw named2.ensures parts.0) tagged))) c.in-Err-assign.is)
 
 pub offset_bounds-x-depth-in-1 : goal.offset_bounds-x-depth-in-1
 offset_bounds-x-depth-in-1 c =
@@ -254,8 +250,8 @@ named-requires-in-4 c =
     let low = there g more (omega arith) c.in-4.is in
     (omega (arith, low, g.ready.recipe.counts.few_stmts), omega arith, first_fits g.ready low)
 
-pub value-v-requires-in-4 : goal.value-v-requires-in-4
-value-v-requires-in-4 c =
+pub value-requires-in-4 : goal.value-requires-in-4
+value-requires-in-4 c =
     let pre = c.requires in
     let loop = c.loop-step in
     let more = c.loop-step-test.true in
@@ -264,35 +260,34 @@ value-v-requires-in-4 c =
     let parts = names g more (omega arith) c.in-4.is in
     record { recipe = pre.recipe; policy = pre.policy; ready = g.ready; there = rw named7.ensures parts.0 }
 
-pub returns-then-v-ge-FAULT-2 : goal.returns-then-v-ge-FAULT-2
-returns-then-v-ge-FAULT-2 c =
+pub returns-in-Err-value : goal.returns-in-Err-value
+returns-in-Err-value c =
     let loop = c.loop-step in
     let more = c.loop-step-test.true in
     let named7 = c.named-in-4 in
-    let value2 = c.value-v-in-4 in
-    let if7 = c.if-v-ge-FAULT-2 in
-    let stop-of4 = c.stop_of-then-v-ge-FAULT-2 in
-    let stopped5 = c.stopped-then-v-ge-FAULT-2 in
+    let value2 = c.value-in-4 in
+    let err = c.in-Err-value in
+    let stopped5 = c.stopped-in-Err-value in
     λ r p a l. let g = loop.invariant r p a l in
     let parts = names g more (omega arith) c.in-4.is in
     let answer = rw named7.ensures at value2.ensures in
-    rw (stopped5.ensures, stop-of4.ensures) (fails_with g more (omega arith) c.in-4.is
-    (rw (value_fault g.ready parts.0 answer if7.true)))
+    rw stopped5.ensures (fails_with g more (omega arith) c.in-4.is
+    (rw (value_found g.ready parts.0 answer ∙ err.is)))
 
 pub returns-then-limit-depth-2 : goal.returns-then-limit-depth-2
 returns-then-limit-depth-2 c =
     let loop = c.loop-step in
     let more = c.loop-step-test.true in
     let named7 = c.named-in-4 in
-    let value2 = c.value-v-in-4 in
-    let if7 = c.if-v-ge-FAULT-2 in
+    let value2 = c.value-in-4 in
+    let ok = c.in-Ok-value in
     let if8 = c.if-limit-depth-2 in
     let stopped6 = c.stopped-then-limit-depth-2 in
     λ r p a l. let g = loop.invariant r p a l in
     let parts = names g more (omega arith) c.in-4.is in
     let now = begun g more (omega arith) c.in-4.is in
     let answer = rw named7.ensures at value2.ensures in
-    let found = value_found g.ready parts.0 answer if7.false in
+    let found = value_found g.ready parts.0 answer ∙ ok.is in
     rw stopped6.ensures (full g more (rw found at now) refl (rw l at if8.true))
 
 pub frame_word-requires-in-4 : goal.frame_word-requires-in-4
@@ -308,17 +303,17 @@ join-tag-requires c =
     let loop = c.loop-step in
     let more = c.loop-step-test.true in
     let named7 = c.named-in-4 in
-    let value2 = c.value-v-in-4 in
-    let if7 = c.if-v-ge-FAULT-2 in
-    let tag_of = c.tag_of in
+    let value2 = c.value-in-4 in
+    let ok = c.in-Ok-value in
+    let from = c.from in
     let g = loop.invariant pre.recipe pre.policy pre.ready pre.limited in
     let parts = names g more (omega arith) c.in-4.is in
     let answer = rw named7.ensures at value2.ensures in
-    let tagged = tag_found g.ready parts.0 answer if7.false in
-    (branch_low g, omega (arith, tag_of.ensures, tagged, g.ready.policy.few_tags))
+    let tagged = tag_found g.ready parts.0 answer ok.is in
+    (branch_low g, omega (arith, from.ensures, tagged, g.ready.policy.few_tags))
 
-pub named-s-requires-then-word_of-eq0 : goal.named-s-requires-then-word_of-eq0
-named-s-requires-then-word_of-eq0 c =
+pub named-s-requires-then-v-eq0 : goal.named-s-requires-then-v-eq0
+named-s-requires-then-v-eq0 c =
     let pre = c.requires in
     let loop = c.loop-step in
     let more = c.loop-step-test.true in
@@ -326,12 +321,12 @@ named-s-requires-then-word_of-eq0 c =
     let low = there g more (omega arith) c.in-4.is in
     (omega (arith, low, g.ready.recipe.counts.few_stmts), omega arith, third_fits g.ready low)
 
-pub kind_at-kind-requires-then-word_of-eq0 : goal.kind_at-kind-requires-then-word_of-eq0
-kind_at-kind-requires-then-word_of-eq0 c =
+pub kind_at-kind-requires-then-v-eq0 : goal.kind_at-kind-requires-then-v-eq0
+kind_at-kind-requires-then-v-eq0 c =
     let pre = c.requires in
     let loop = c.loop-step in
     let more = c.loop-step-test.true in
-    let named8 = c.named-s-then-word_of-eq0 in
+    let named8 = c.named-s-then-v-eq0 in
     let g = loop.invariant pre.recipe pre.policy pre.ready pre.limited in
     let parts = names g more (omega arith) c.in-4.is in
     let low = there g more (omega arith) c.in-4.is in (
@@ -339,8 +334,8 @@ kind_at-kind-requires-then-word_of-eq0 c =
       omega (arith, kind_low g.ready named8.result (rw named8.ensures (lower low parts.2))),
     )
 
-pub named-s-requires-else-word_of-eq0 : goal.named-s-requires-else-word_of-eq0
-named-s-requires-else-word_of-eq0 c =
+pub named-s-requires-else-v-eq0 : goal.named-s-requires-else-v-eq0
+named-s-requires-else-v-eq0 c =
     let pre = c.requires in
     let loop = c.loop-step in
     let more = c.loop-step-test.true in
@@ -348,12 +343,12 @@ named-s-requires-else-word_of-eq0 c =
     let low = there g more (omega arith) c.in-4.is in
     (omega (arith, low, g.ready.recipe.counts.few_stmts), omega arith, second_fits g.ready low)
 
-pub kind_at-kind-requires-else-word_of-eq0 : goal.kind_at-kind-requires-else-word_of-eq0
-kind_at-kind-requires-else-word_of-eq0 c =
+pub kind_at-kind-requires-else-v-eq0 : goal.kind_at-kind-requires-else-v-eq0
+kind_at-kind-requires-else-v-eq0 c =
     let pre = c.requires in
     let loop = c.loop-step in
     let more = c.loop-step-test.true in
-    let named9 = c.named-s-else-word_of-eq0 in
+    let named9 = c.named-s-else-v-eq0 in
     let g = loop.invariant pre.recipe pre.policy pre.ready pre.limited in
     let parts = names g more (omega arith) c.in-4.is in
     let low = there g more (omega arith) c.in-4.is in (
@@ -370,8 +365,8 @@ named-requires-in-5 c =
     let low = there g more (omega arith) c.in-5.is in
     (omega (arith, low, g.ready.recipe.counts.few_stmts), omega arith, first_fits g.ready low)
 
-pub value-v-requires-in-5 : goal.value-v-requires-in-5
-value-v-requires-in-5 c =
+pub value-requires-in-5 : goal.value-requires-in-5
+value-requires-in-5 c =
     let pre = c.requires in
     let loop = c.loop-step in
     let more = c.loop-step-test.true in
@@ -380,30 +375,29 @@ value-v-requires-in-5 c =
     let parts = names g more (omega arith) c.in-5.is in
     record { recipe = pre.recipe; policy = pre.policy; ready = g.ready; there = rw named10.ensures parts.0 }
 
-pub returns-then-v-ge-FAULT-3 : goal.returns-then-v-ge-FAULT-3
-returns-then-v-ge-FAULT-3 c =
+pub returns-in-Err-value-2 : goal.returns-in-Err-value-2
+returns-in-Err-value-2 c =
     let loop = c.loop-step in
     let more = c.loop-step-test.true in
     let named10 = c.named-in-5 in
-    let value3 = c.value-v-in-5 in
-    let if10 = c.if-v-ge-FAULT-3 in
-    let stop-of5 = c.stop_of-then-v-ge-FAULT-3 in
-    let stopped7 = c.stopped-then-v-ge-FAULT-3 in
+    let value3 = c.value-in-5 in
+    let err = c.in-Err-value-2 in
+    let stopped7 = c.stopped-in-Err-value-2 in
     λ r p a l. let g = loop.invariant r p a l in
     let parts = names g more (omega arith) c.in-5.is in
     let answer = rw named10.ensures at value3.ensures in
-    rw (stopped7.ensures, stop-of5.ensures) (fails_with g more (omega arith) c.in-5.is
-    (rw (value_fault g.ready parts.0 answer if10.true)))
+    rw stopped7.ensures (fails_with g more (omega arith) c.in-5.is
+    (rw (value_found g.ready parts.0 answer ∙ err.is)))
 
-pub offset_bounds-x-depth-then-word_of-eq0-2 : goal.offset_bounds-x-depth-then-word_of-eq0-2
-offset_bounds-x-depth-then-word_of-eq0-2 c =
+pub offset_bounds-x-depth-then-v-eq0-2 : goal.offset_bounds-x-depth-then-v-eq0-2
+offset_bounds-x-depth-then-v-eq0-2 c =
     let pre = c.requires in
     let loop = c.loop-step in
     let g = loop.invariant pre.recipe pre.policy pre.ready pre.limited in
     omega (arith, depth_below g, g.ready.recipe.counts.few_stmts)
 
-pub bounds-x-depth-then-word_of-eq0-2 : goal.bounds-x-depth-then-word_of-eq0-2
-bounds-x-depth-then-word_of-eq0-2 c =
+pub bounds-x-depth-then-v-eq0-2 : goal.bounds-x-depth-then-v-eq0-2
+bounds-x-depth-then-v-eq0-2 c =
     let pre = c.requires in
     let loop = c.loop-step in
     let g = loop.invariant pre.recipe pre.policy pre.ready pre.limited in
@@ -414,45 +408,43 @@ returns-then-limit-depth-3 c =
     let loop = c.loop-step in
     let more = c.loop-step-test.true in
     let named10 = c.named-in-5 in
-    let value3 = c.value-v-in-5 in
-    let if10 = c.if-v-ge-FAULT-3 in
-    let word-of2 = c.word_of-in-5 in
-    let if11 = c.if-word_of-eq0-2 in
+    let value3 = c.value-in-5 in
+    let ok = c.in-Ok-value-2 in
+    let if11 = c.if-v-eq0-2 in
     let if12 = c.if-limit-depth-3 in
     let stopped8 = c.stopped-then-limit-depth-3 in
     λ r p a l. let g = loop.invariant r p a l in
     let parts = names g more (omega arith) c.in-5.is in
     let now = begun g more (omega arith) c.in-5.is in
     let answer = rw named10.ensures at value3.ensures in
-    let found = value_found g.ready parts.0 answer if10.false in
-    rw stopped8.ensures (full g more now (loops_yes (policy_of p) (recipe_of r) (held_now g) (branch_now g) value3.result found
-    word-of2.ensures _ _ if11.false) (rw l at if12.true))
+    let found = value_found g.ready parts.0 answer ∙ ok.is in
+    rw stopped8.ensures (full g more now (loops_yes (policy_of p) (recipe_of r) (held_now g) (branch_now g) ok.v found _ _ if11.false) (rw l at if12.true))
 
-pub frame_word-requires-else-word_of-eq0-2 : goal.frame_word-requires-else-word_of-eq0-2
-frame_word-requires-else-word_of-eq0-2 c =
+pub frame_word-requires-else-v-eq0-2 : goal.frame_word-requires-else-v-eq0-2
+frame_word-requires-else-v-eq0-2 c =
     let pre = c.requires in
     let loop = c.loop-step in
     let more = c.loop-step-test.true in
     let g = loop.invariant pre.recipe pre.policy pre.ready pre.limited in
     (omega arith, omega (arith, (there g more (omega arith) c.in-5.is), g.ready.recipe.counts.few_stmts), branch_low g)
 
-pub join-tag-requires-else-word_of-eq0-2 : goal.join-tag-requires-else-word_of-eq0-2
-join-tag-requires-else-word_of-eq0-2 c =
+pub join-tag-requires-else-v-eq0-2 : goal.join-tag-requires-else-v-eq0-2
+join-tag-requires-else-v-eq0-2 c =
     let pre = c.requires in
     let loop = c.loop-step in
     let more = c.loop-step-test.true in
     let named10 = c.named-in-5 in
-    let value3 = c.value-v-in-5 in
-    let if10 = c.if-v-ge-FAULT-3 in
-    let tag-of2 = c.tag_of-else-word_of-eq0-2 in
+    let value3 = c.value-in-5 in
+    let ok = c.in-Ok-value-2 in
+    let from2 = c.from-else-v-eq0-2 in
     let g = loop.invariant pre.recipe pre.policy pre.ready pre.limited in
     let parts = names g more (omega arith) c.in-5.is in
     let answer = rw named10.ensures at value3.ensures in
-    let tagged = tag_found g.ready parts.0 answer if10.false in
-    (branch_low g, omega (arith, tag-of2.ensures, tagged, g.ready.policy.few_tags))
+    let tagged = tag_found g.ready parts.0 answer ok.is in
+    (branch_low g, omega (arith, from2.ensures, tagged, g.ready.policy.few_tags))
 
-pub named-s-requires-else-word_of-eq0-2 : goal.named-s-requires-else-word_of-eq0-2
-named-s-requires-else-word_of-eq0-2 c =
+pub named-s-requires-else-v-eq0-2 : goal.named-s-requires-else-v-eq0-2
+named-s-requires-else-v-eq0-2 c =
     let pre = c.requires in
     let loop = c.loop-step in
     let more = c.loop-step-test.true in
@@ -460,12 +452,12 @@ named-s-requires-else-word_of-eq0-2 c =
     let low = there g more (omega arith) c.in-5.is in
     (omega (arith, low, g.ready.recipe.counts.few_stmts), omega arith, second_fits g.ready low)
 
-pub kind_at-kind-requires-else-word_of-eq0-2 : goal.kind_at-kind-requires-else-word_of-eq0-2
-kind_at-kind-requires-else-word_of-eq0-2 c =
+pub kind_at-kind-requires-else-v-eq0-2 : goal.kind_at-kind-requires-else-v-eq0-2
+kind_at-kind-requires-else-v-eq0-2 c =
     let pre = c.requires in
     let loop = c.loop-step in
     let more = c.loop-step-test.true in
-    let named11 = c.named-s-else-word_of-eq0-2 in
+    let named11 = c.named-s-else-v-eq0-2 in
     let g = loop.invariant pre.recipe pre.policy pre.ready pre.limited in
     let parts = names g more (omega arith) c.in-5.is in
     let low = there g more (omega arith) c.in-5.is in (
@@ -482,8 +474,8 @@ named-requires-in-6 c =
     let low = there g more (omega arith) c.in-6.is in
     (omega (arith, low, g.ready.recipe.counts.few_stmts), omega arith, first_fits g.ready low)
 
-pub value-v-requires-in-6 : goal.value-v-requires-in-6
-value-v-requires-in-6 c =
+pub value-requires-in-6 : goal.value-requires-in-6
+value-requires-in-6 c =
     let pre = c.requires in
     let loop = c.loop-step in
     let more = c.loop-step-test.true in
@@ -491,20 +483,19 @@ value-v-requires-in-6 c =
     let g = loop.invariant pre.recipe pre.policy pre.ready pre.limited in
     record { recipe = pre.recipe; policy = pre.policy; ready = g.ready; there = rw named12.ensures (names g more (omega arith) c.in-6.is) }
 
-pub returns-then-v-ge-FAULT-4 : goal.returns-then-v-ge-FAULT-4
-returns-then-v-ge-FAULT-4 c =
+pub returns-in-Err-value-3 : goal.returns-in-Err-value-3
+returns-in-Err-value-3 c =
     let loop = c.loop-step in
     let more = c.loop-step-test.true in
     let named12 = c.named-in-6 in
-    let value4 = c.value-v-in-6 in
-    let if13 = c.if-v-ge-FAULT-4 in
-    let stop-of6 = c.stop_of-then-v-ge-FAULT-4 in
-    let stopped9 = c.stopped-then-v-ge-FAULT-4 in
+    let value4 = c.value-in-6 in
+    let err = c.in-Err-value-3 in
+    let stopped9 = c.stopped-in-Err-value-3 in
     λ r p a l. let g = loop.invariant r p a l in
     let parts = names g more (omega arith) c.in-6.is in
     let answer = rw named12.ensures at value4.ensures in
-    rw (stopped9.ensures, stop-of6.ensures) (fails_with g more (omega arith) c.in-6.is
-    (rw (value_fault g.ready parts answer if13.true)))
+    rw stopped9.ensures (fails_with g more (omega arith) c.in-6.is
+    (rw (value_found g.ready parts answer ∙ err.is)))
 
 pub named-port-requires : goal.named-port-requires
 named-port-requires c =
@@ -521,22 +512,22 @@ may_emit-requires c =
     let loop = c.loop-step in
     let more = c.loop-step-test.true in
     let named12 = c.named-in-6 in
-    let value4 = c.value-v-in-6 in
-    let if13 = c.if-v-ge-FAULT-4 in
+    let value4 = c.value-in-6 in
+    let ok = c.in-Ok-value-3 in
     let named13 = c.named-port in
     let g = loop.invariant pre.recipe pre.policy pre.ready pre.limited in
     let parts = names g more (omega arith) c.in-6.is in
     let answer = rw named12.ensures at value4.ensures in
-    let tagged = tag_found g.ready parts answer if13.false in
-    emit_given g.ready _ g.standing.branch (rw named13.ensures (port_names g more (omega arith) c.in-6.is)) tagged
+    let tagged = tag_found g.ready parts answer ok.is in
+    emit_given g.ready ok.v g.standing.branch (rw named13.ensures (port_names g more (omega arith) c.in-6.is)) tagged
 
 pub returns-then-not-may_emit : goal.returns-then-not-may_emit
 returns-then-not-may_emit c =
     let loop = c.loop-step in
     let more = c.loop-step-test.true in
     let named12 = c.named-in-6 in
-    let value4 = c.value-v-in-6 in
-    let if13 = c.if-v-ge-FAULT-4 in
+    let value4 = c.value-in-6 in
+    let ok = c.in-Ok-value-3 in
     let named13 = c.named-port in
     let may-emit = c.may_emit in
     let if14 = c.if-not-may_emit in
@@ -544,11 +535,11 @@ returns-then-not-may_emit c =
     λ r p a l. let g = loop.invariant r p a l in
     let parts = names g more (omega arith) c.in-6.is in
     let answer = rw named12.ensures at value4.ensures in
-    let found = value_found g.ready parts answer if13.false in
-    let tagged = tag_found g.ready parts answer if13.false in
+    let found = value_found g.ready parts answer ∙ ok.is in
+    let tagged = tag_found g.ready parts answer ok.is in
     rw stopped10.ensures (fails_with g more (omega arith) c.in-6.is
-    (emits_no (policy_of p) (recipe_of r) (held_now g) (branch_now g) value4.result found refl _
-    (emit_off g.ready _ g.standing.branch (port_names g more (omega arith) c.in-6.is) tagged
+    (emits_no (policy_of p) (recipe_of r) (held_now g) (branch_now g) ok.v found _
+    (emit_off g.ready ok.v g.standing.branch (port_names g more (omega arith) c.in-6.is) tagged
     (rw named13.ensures at may-emit.ensures) if14.true)))
 
 pub returns-then-q-o : goal.returns-then-q-o
@@ -556,8 +547,8 @@ returns-then-q-o c =
     let loop = c.loop-step in
     let more = c.loop-step-test.true in
     let named12 = c.named-in-6 in
-    let value4 = c.value-v-in-6 in
-    let if13 = c.if-v-ge-FAULT-4 in
+    let value4 = c.value-in-6 in
+    let ok = c.in-Ok-value-3 in
     let named13 = c.named-port in
     let may-emit = c.may_emit in
     let if14 = c.if-not-may_emit in
@@ -567,10 +558,10 @@ returns-then-q-o c =
     let parts = names g more (omega arith) c.in-6.is in
     let now = begun g more (omega arith) c.in-6.is in
     let answer = rw named12.ensures at value4.ensures in
-    let found = value_found g.ready parts answer if13.false in
-    let tagged = tag_found g.ready parts answer if13.false in
-    rw stopped11.ensures (no_room g more now (emits_yes (policy_of p) (recipe_of r) (held_now g) (branch_now g) value4.result found refl _
-    (emit_on g.ready _ g.standing.branch (port_names g more (omega arith) c.in-6.is) tagged (rw named13.ensures at may-emit.ensures)
+    let found = value_found g.ready parts answer ∙ ok.is in
+    let tagged = tag_found g.ready parts answer ok.is in
+    rw stopped11.ensures (no_room g more now (emits_yes (policy_of p) (recipe_of r) (held_now g) (branch_now g) ok.v found _
+    (emit_on g.ready ok.v g.standing.branch (port_names g more (omega arith) c.in-6.is) tagged (rw named13.ensures at may-emit.ensures)
     if14.false)) (omega (arith, g.same_room, if15.true)))
 
 pub overflow_cast-port : goal.overflow_cast-port
@@ -670,8 +661,8 @@ named-requires-in-9 c =
           (loop_there g more c.in-9.is),
     )
 
-pub value-v-requires-in-9 : goal.value-v-requires-in-9
-value-v-requires-in-9 c =
+pub value-requires-in-9 : goal.value-requires-in-9
+value-requires-in-9 c =
     let pre = c.requires in
     let loop = c.loop-step in
     let more = c.loop-step-test.true in
@@ -679,73 +670,72 @@ value-v-requires-in-9 c =
     let g = loop.invariant pre.recipe pre.policy pre.ready pre.limited in
     record { recipe = pre.recipe; policy = pre.policy; ready = g.ready; there = rw named14.ensures (loop_names g more c.in-9.is).0 }
 
-pub returns-then-v-ge-FAULT-5 : goal.returns-then-v-ge-FAULT-5
-returns-then-v-ge-FAULT-5 c =
+pub returns-in-Err-value-4 : goal.returns-in-Err-value-4
+returns-in-Err-value-4 c =
     let loop = c.loop-step in
     let more = c.loop-step-test.true in
     let named14 = c.named-in-9 in
-    let value5 = c.value-v-in-9 in
-    let if16 = c.if-v-ge-FAULT-5 in
-    let stop-of7 = c.stop_of-then-v-ge-FAULT-5 in
-    let stopped12 = c.stopped-then-v-ge-FAULT-5 in
+    let value5 = c.value-in-9 in
+    let err = c.in-Err-value-4 in
+    let stopped12 = c.stopped-in-Err-value-4 in
     λ r p a l. let g = loop.invariant r p a l in
     let parts = loop_names g more c.in-9.is in
     let answer = rw named14.ensures at value5.ensures in
-    rw (stopped12.ensures, stop-of7.ensures) (fails_at g more c.in-9.is (rw (value_fault g.ready parts.0 answer if16.true)))
+    rw stopped12.ensures (fails_at g more c.in-9.is (rw (value_found g.ready parts.0 answer ∙ err.is)))
 
-pub offset_bounds-x-depth-then-word_of-eq0-3 : goal.offset_bounds-x-depth-then-word_of-eq0-3
-offset_bounds-x-depth-then-word_of-eq0-3 c =
+pub offset_bounds-x-depth-then-v-eq0-3 : goal.offset_bounds-x-depth-then-v-eq0-3
+offset_bounds-x-depth-then-v-eq0-3 c =
     let pre = c.requires in
     let loop = c.loop-step in
     let g = loop.invariant pre.recipe pre.policy pre.ready pre.limited in
     omega (arith, depth_below g, g.ready.recipe.counts.few_stmts)
 
-pub bounds-x-depth-then-word_of-eq0-3 : goal.bounds-x-depth-then-word_of-eq0-3
-bounds-x-depth-then-word_of-eq0-3 c =
+pub bounds-x-depth-then-v-eq0-3 : goal.bounds-x-depth-then-v-eq0-3
+bounds-x-depth-then-v-eq0-3 c =
     let pre = c.requires in
     let loop = c.loop-step in
     let g = loop.invariant pre.recipe pre.policy pre.ready pre.limited in
     omega (arith, depth_below g, g.ready.recipe.counts.few_stmts)
 
-pub overflow_sub-depth-then-word_of-eq0-3 : goal.overflow_sub-depth-then-word_of-eq0-3
-overflow_sub-depth-then-word_of-eq0-3 c =
+pub overflow_sub-depth-then-v-eq0-3 : goal.overflow_sub-depth-then-v-eq0-3
+overflow_sub-depth-then-v-eq0-3 c =
     let pre = c.requires in
     let loop = c.loop-step in
     let more = c.loop-step-test.true in
     let g = loop.invariant pre.recipe pre.policy pre.ready pre.limited in
     omega (arith, some g more c.in-9.is)
 
-pub offset_bounds-x-depth-then-word_of-eq0-3-2 : goal.offset_bounds-x-depth-then-word_of-eq0-3-2
-offset_bounds-x-depth-then-word_of-eq0-3-2 c =
+pub offset_bounds-x-depth-then-v-eq0-3-2 : goal.offset_bounds-x-depth-then-v-eq0-3-2
+offset_bounds-x-depth-then-v-eq0-3-2 c =
     let pre = c.requires in
     let loop = c.loop-step in
     let g = loop.invariant pre.recipe pre.policy pre.ready pre.limited in
     omega (arith, depth_below g, g.ready.recipe.counts.few_stmts)
 
-pub bounds-x-depth-then-word_of-eq0-3-2 : goal.bounds-x-depth-then-word_of-eq0-3-2
-bounds-x-depth-then-word_of-eq0-3-2 c =
+pub bounds-x-depth-then-v-eq0-3-2 : goal.bounds-x-depth-then-v-eq0-3-2
+bounds-x-depth-then-v-eq0-3-2 c =
     let pre = c.requires in
     let loop = c.loop-step in
     let g = loop.invariant pre.recipe pre.policy pre.ready pre.limited in
     omega (arith, depth_below g, g.ready.recipe.counts.few_stmts)
 
-pub join-tag-requires-else-word_of-eq0-3 : goal.join-tag-requires-else-word_of-eq0-3
-join-tag-requires-else-word_of-eq0-3 c =
+pub join-tag-requires-else-v-eq0-3 : goal.join-tag-requires-else-v-eq0-3
+join-tag-requires-else-v-eq0-3 c =
     let pre = c.requires in
     let loop = c.loop-step in
     let more = c.loop-step-test.true in
     let named14 = c.named-in-9 in
-    let value5 = c.value-v-in-9 in
-    let if16 = c.if-v-ge-FAULT-5 in
-    let tag-of3 = c.tag_of-else-word_of-eq0-3 in
+    let value5 = c.value-in-9 in
+    let ok = c.in-Ok-value-4 in
+    let from3 = c.from-else-v-eq0-3 in
     let g = loop.invariant pre.recipe pre.policy pre.ready pre.limited in
     let parts = loop_names g more c.in-9.is in
     let answer = rw named14.ensures at value5.ensures in
-    let tagged = tag_found g.ready parts.0 answer if16.false in
-    (branch_low g, omega (arith, tag-of3.ensures, tagged, g.ready.policy.few_tags))
+    let tagged = tag_found g.ready parts.0 answer ok.is in
+    (branch_low g, omega (arith, from3.ensures, tagged, g.ready.policy.few_tags))
 
-pub named-s-requires-else-word_of-eq0-3 : goal.named-s-requires-else-word_of-eq0-3
-named-s-requires-else-word_of-eq0-3 c =
+pub named-s-requires-else-v-eq0-3 : goal.named-s-requires-else-v-eq0-3
+named-s-requires-else-v-eq0-3 c =
     let pre = c.requires in
     let loop = c.loop-step in
     let more = c.loop-step-test.true in
@@ -756,12 +746,12 @@ named-s-requires-else-word_of-eq0-3 c =
           (loop_there g more c.in-9.is),
     )
 
-pub kind_at-kind-requires-else-word_of-eq0-3 : goal.kind_at-kind-requires-else-word_of-eq0-3
-kind_at-kind-requires-else-word_of-eq0-3 c =
+pub kind_at-kind-requires-else-v-eq0-3 : goal.kind_at-kind-requires-else-v-eq0-3
+kind_at-kind-requires-else-v-eq0-3 c =
     let pre = c.requires in
     let loop = c.loop-step in
     let more = c.loop-step-test.true in
-    let named15 = c.named-s-else-word_of-eq0-3 in
+    let named15 = c.named-s-else-v-eq0-3 in
     let g = loop.invariant pre.recipe pre.policy pre.ready pre.limited in
     let parts = loop_names g more c.in-9.is in (
       omega (arith, named15.ensures, parts.1, (loop_there g more c.in-9.is), g.ready.recipe.counts.few_stmts),
@@ -782,12 +772,12 @@ loop-step-preserved c = elim c.match-kind.branch [
       rw (w.u-is, w.q-is, w.x-is, w.depth-is, w.s-is, w.kind-is, w.tag-is, w.records-is)
       (let g = loop.invariant r p a l in
       passes_on g more (begun g more (omega arith) w.in-0.is) refl kind-in.ensures stmt-in.ensures)
-  | goal.in-1+else-v-ge-FAULT+in_default-assign w ↦
+  | goal.in-1+in-Ok+in_default-assign w ↦
       let loop = c.loop-step in
       let more = c.loop-step-test.true in
       let named = w.named in
-      let value = w.value-v in
-      let if3 = w.if-v-ge-FAULT in
+      let value = w.value in
+      let ok = w.in-Ok in
       let named2 = w.named-in-1 in
       let assign = w.assign in
       let kind-in2 = w.kind_in-kind-in-1 in
@@ -798,12 +788,11 @@ loop-step-preserved c = elim c.match-kind.branch [
       let parts = names g more (omega arith) w.in-1.is in
       let now = begun g more (omega arith) w.in-1.is in
       let answer = rw named.ensures at value.ensures in
-      let found = value_found g.ready parts.1 answer if3.false in
-      let tagged = tag_found g.ready parts.1 answer if3.false in
+      let found = value_found g.ready parts.1 answer ∙ ok.is in
+      let tagged = tag_found g.ready parts.1 answer ok.is in
       wrote_on g more _ now (act_fits g more (omega arith) w.in-1.is)
-      (did_as (policy_of p) (recipe_of r) (held_now g) (branch_now g) _ _ _ _ (worth_of value.result) found
-      (rw named2.ensures at (assign.ensures r p (worth_of value.result) g.ready g.standing.branch (rw named2.ensures parts.0)
-      (worth_tag _ tagged) (worth_word _) (worth_answer _)))) w.in_default-assign.is kind-in2.ensures stmt-in2.ensures)
+      (did_as (policy_of p) (recipe_of r) (held_now g) (branch_now g) _ _ _ _ ok.v found
+      (rw named2.ensures at (assign.ensures r p g.ready g.standing.branch (rw named2.ensures parts.0) tagged))) w.in_default-assign.is kind-in2.ensures stmt-in2.ensures)
   | goal.in-2+in_default-store w ↦
       let loop = c.loop-step in
       let more = c.loop-step-test.true in
@@ -833,111 +822,106 @@ loop-step-preserved c = elim c.match-kind.branch [
       (let g = loop.invariant r p a l in
       let now = begun g more (omega arith) w.in-3.is in
       pushes_on g more now refl (rw l at if6.false) (rw named5.ensures at frame-word.ensures) named6.ensures refl kind-at2.ensures)
-  | goal.in-4+else-v-ge-FAULT-2+else-limit-depth-2+then-word_of-eq0 w ↦
+  | goal.in-4+in-Ok-value+else-limit-depth-2+then-v-eq0 w ↦
       let loop = c.loop-step in
       let more = c.loop-step-test.true in
       let named7 = w.named-in-4 in
-      let value2 = w.value-v-in-4 in
-      let if7 = w.if-v-ge-FAULT-2 in
+      let value2 = w.value-in-4 in
+      let ok = w.in-Ok-value in
       let if8 = w.if-limit-depth-2 in
       let frame-word2 = w.frame_word-in-4 in
-      let tag_of = w.tag_of in
+      let from = w.from in
       let join = w.join-tag in
-      let word_of = w.word_of in
-      let if9 = w.if-word_of-eq0 in
-      let named8 = w.named-s-then-word_of-eq0 in
-      let kind-at3 = w.kind_at-kind-then-word_of-eq0 in
+      let if9 = w.if-v-eq0 in
+      let named8 = w.named-s-then-v-eq0 in
+      let kind-at3 = w.kind_at-kind-then-v-eq0 in
       λ r p a l.
       rw (w.u-is, w.q-is, w.x-is, w.depth-is, w.s-is, w.kind-is, w.tag-is, w.records-is)
       (let g = loop.invariant r p a l in
       let parts = names g more (omega arith) w.in-4.is in
       let now = begun g more (omega arith) w.in-4.is in
       let answer = rw named7.ensures at value2.ensures in
-      let found = value_found g.ready parts.0 answer if7.false in
-      let tagged = tag_found g.ready parts.0 answer if7.false in
-      pushes_on g more now (chooses_no (policy_of p) (recipe_of r) (held_now g) (branch_now g) value2.result found word_of.ensures _ _ if9.true)
+      let found = value_found g.ready parts.0 answer ∙ ok.is in
+      let tagged = tag_found g.ready parts.0 answer ok.is in
+      pushes_on g more now (chooses_no (policy_of p) (recipe_of r) (held_now g) (branch_now g) ok.v found _ _ if9.true)
       (rw l at if8.false) frame-word2.ensures named8.ensures (join_is g.ready g.standing.branch tagged
-      (rw tag_of.ensures at join.ensures)) kind-at3.ensures)
-  | goal.in-4+else-v-ge-FAULT-2+else-limit-depth-2+else-word_of-eq0 w ↦
+      (rw from.ensures at join.ensures)) kind-at3.ensures)
+  | goal.in-4+in-Ok-value+else-limit-depth-2+else-v-eq0 w ↦
       let loop = c.loop-step in
       let more = c.loop-step-test.true in
       let named7 = w.named-in-4 in
-      let value2 = w.value-v-in-4 in
-      let if7 = w.if-v-ge-FAULT-2 in
+      let value2 = w.value-in-4 in
+      let ok = w.in-Ok-value in
       let if8 = w.if-limit-depth-2 in
       let frame-word2 = w.frame_word-in-4 in
-      let tag_of = w.tag_of in
+      let from = w.from in
       let join = w.join-tag in
-      let word_of = w.word_of in
-      let if9 = w.if-word_of-eq0 in
-      let named9 = w.named-s-else-word_of-eq0 in
-      let kind-at4 = w.kind_at-kind-else-word_of-eq0 in
+      let if9 = w.if-v-eq0 in
+      let named9 = w.named-s-else-v-eq0 in
+      let kind-at4 = w.kind_at-kind-else-v-eq0 in
       λ r p a l.
       rw (w.u-is, w.q-is, w.x-is, w.depth-is, w.s-is, w.kind-is, w.tag-is, w.records-is)
       (let g = loop.invariant r p a l in
       let parts = names g more (omega arith) w.in-4.is in
       let now = begun g more (omega arith) w.in-4.is in
       let answer = rw named7.ensures at value2.ensures in
-      let found = value_found g.ready parts.0 answer if7.false in
-      let tagged = tag_found g.ready parts.0 answer if7.false in
-      pushes_on g more now (chooses_yes (policy_of p) (recipe_of r) (held_now g) (branch_now g) value2.result found word_of.ensures _ _ if9.false)
+      let found = value_found g.ready parts.0 answer ∙ ok.is in
+      let tagged = tag_found g.ready parts.0 answer ok.is in
+      pushes_on g more now (chooses_yes (policy_of p) (recipe_of r) (held_now g) (branch_now g) ok.v found _ _ if9.false)
       (rw l at if8.false) frame-word2.ensures named9.ensures (join_is g.ready g.standing.branch tagged
-      (rw tag_of.ensures at join.ensures)) kind-at4.ensures)
-  | goal.in-5+else-v-ge-FAULT-3+then-word_of-eq0-2 w ↦
+      (rw from.ensures at join.ensures)) kind-at4.ensures)
+  | goal.in-5+in-Ok-value-2+then-v-eq0-2 w ↦
       let loop = c.loop-step in
       let more = c.loop-step-test.true in
       let named10 = w.named-in-5 in
-      let value3 = w.value-v-in-5 in
-      let if10 = w.if-v-ge-FAULT-3 in
-      let word-of2 = w.word_of-in-5 in
-      let if11 = w.if-word_of-eq0-2 in
-      let kind-in4 = w.kind_in-kind-then-word_of-eq0-2 in
-      let stmt-in4 = w.stmt_in-s-then-word_of-eq0-2 in
+      let value3 = w.value-in-5 in
+      let ok = w.in-Ok-value-2 in
+      let if11 = w.if-v-eq0-2 in
+      let kind-in4 = w.kind_in-kind-then-v-eq0-2 in
+      let stmt-in4 = w.stmt_in-s-then-v-eq0-2 in
       λ r p a l.
       rw (w.u-is, w.q-is, w.x-is, w.depth-is, w.s-is, w.kind-is, w.tag-is, w.records-is)
       (let g = loop.invariant r p a l in
       let parts = names g more (omega arith) w.in-5.is in
       let now = begun g more (omega arith) w.in-5.is in
       let answer = rw named10.ensures at value3.ensures in
-      let found = value_found g.ready parts.0 answer if10.false in
-      passes_on g more now (loops_no (policy_of p) (recipe_of r) (held_now g) (branch_now g) value3.result found word-of2.ensures _ _ if11.true)
+      let found = value_found g.ready parts.0 answer ∙ ok.is in
+      passes_on g more now (loops_no (policy_of p) (recipe_of r) (held_now g) (branch_now g) ok.v found _ _ if11.true)
       kind-in4.ensures stmt-in4.ensures)
-  | goal.in-5+else-v-ge-FAULT-3+else-word_of-eq0-2+else-limit-depth-3 w ↦
+  | goal.in-5+in-Ok-value-2+else-v-eq0-2+else-limit-depth-3 w ↦
       let loop = c.loop-step in
       let more = c.loop-step-test.true in
       let named10 = w.named-in-5 in
-      let value3 = w.value-v-in-5 in
-      let if10 = w.if-v-ge-FAULT-3 in
-      let word-of2 = w.word_of-in-5 in
-      let if11 = w.if-word_of-eq0-2 in
+      let value3 = w.value-in-5 in
+      let ok = w.in-Ok-value-2 in
+      let if11 = w.if-v-eq0-2 in
       let if12 = w.if-limit-depth-3 in
-      let frame-word3 = w.frame_word-else-word_of-eq0-2 in
-      let tag-of2 = w.tag_of-else-word_of-eq0-2 in
-      let join2 = w.join-tag-else-word_of-eq0-2 in
-      let named11 = w.named-s-else-word_of-eq0-2 in
-      let kind-at5 = w.kind_at-kind-else-word_of-eq0-2 in
+      let frame-word3 = w.frame_word-else-v-eq0-2 in
+      let from2 = w.from-else-v-eq0-2 in
+      let join2 = w.join-tag-else-v-eq0-2 in
+      let named11 = w.named-s-else-v-eq0-2 in
+      let kind-at5 = w.kind_at-kind-else-v-eq0-2 in
       λ r p a l.
       rw (w.u-is, w.q-is, w.x-is, w.depth-is, w.s-is, w.kind-is, w.tag-is, w.records-is)
       (let g = loop.invariant r p a l in
       let parts = names g more (omega arith) w.in-5.is in
       let now = begun g more (omega arith) w.in-5.is in
       let answer = rw named10.ensures at value3.ensures in
-      let found = value_found g.ready parts.0 answer if10.false in
-      let tagged = tag_found g.ready parts.0 answer if10.false in
-      pushes_on g more now (loops_yes (policy_of p) (recipe_of r) (held_now g) (branch_now g) value3.result found word-of2.ensures _ _ if11.false)
+      let found = value_found g.ready parts.0 answer ∙ ok.is in
+      let tagged = tag_found g.ready parts.0 answer ok.is in
+      pushes_on g more now (loops_yes (policy_of p) (recipe_of r) (held_now g) (branch_now g) ok.v found _ _ if11.false)
       (rw l at if12.false) frame-word3.ensures named11.ensures
-      (join_is g.ready g.standing.branch tagged (rw tag-of2.ensures at join2.ensures)) kind-at5.ensures)
-  | goal.in-6+else-v-ge-FAULT-4+else-not-may_emit+else-q-o w ↦
+      (join_is g.ready g.standing.branch tagged (rw from2.ensures at join2.ensures)) kind-at5.ensures)
+  | goal.in-6+in-Ok-value-3+else-not-may_emit+else-q-o w ↦
       let loop = c.loop-step in
       let more = c.loop-step-test.true in
       let named12 = w.named-in-6 in
-      let value4 = w.value-v-in-6 in
-      let if13 = w.if-v-ge-FAULT-4 in
+      let value4 = w.value-in-6 in
+      let ok = w.in-Ok-value-3 in
       let named13 = w.named-port in
       let may-emit = w.may_emit in
       let if14 = w.if-not-may_emit in
       let if15 = w.if-q-o in
-      let word-of3 = w.word_of-in-6 in
       let put_record = w.put_record in
       let kind-in5 = w.kind_in-kind-in-6 in
       let stmt-in5 = w.stmt_in-s-in-6 in
@@ -947,11 +931,11 @@ loop-step-preserved c = elim c.match-kind.branch [
       let parts = names g more (omega arith) w.in-6.is in
       let now = begun g more (omega arith) w.in-6.is in
       let answer = rw named12.ensures at value4.ensures in
-      let found = value_found g.ready parts answer if13.false in
-      let tagged = tag_found g.ready parts answer if13.false in
+      let found = value_found g.ready parts answer ∙ ok.is in
+      let tagged = tag_found g.ready parts answer ok.is in
       rw (put_record.ensures, named13.ensures) (records_on g more now
-      (emits_yes (policy_of p) (recipe_of r) (held_now g) (branch_now g) value4.result found word-of3.ensures _
-      (emit_on g.ready _ g.standing.branch (port_names g more (omega arith) w.in-6.is) tagged (rw named13.ensures at may-emit.ensures)
+      (emits_yes (policy_of p) (recipe_of r) (held_now g) (branch_now g) ok.v found _
+      (emit_on g.ready ok.v g.standing.branch (port_names g more (omega arith) w.in-6.is) tagged (rw named13.ensures at may-emit.ensures)
       if14.false)) (omega (arith, g.same_room, if15.false)) kind-in5.ensures stmt-in5.ensures))
   | goal.in-7 w ↦
       let loop = c.loop-step in
@@ -970,45 +954,43 @@ loop-step-preserved c = elim c.match-kind.branch [
       rw (w.u-is, w.q-is, w.x-is, w.depth-is, w.s-is, w.kind-is, w.tag-is, w.records-is)
       (let g = loop.invariant r p a l in
       join_on g more w.in-8.is refl kind-in6.ensures stmt-in6.ensures)
-  | goal.in-9+else-v-ge-FAULT-5+then-word_of-eq0-3 w ↦
+  | goal.in-9+in-Ok-value-4+then-v-eq0-3 w ↦
       let loop = c.loop-step in
       let more = c.loop-step-test.true in
       let named14 = w.named-in-9 in
-      let value5 = w.value-v-in-9 in
-      let if16 = w.if-v-ge-FAULT-5 in
-      let word-of4 = w.word_of-in-9 in
-      let if17 = w.if-word_of-eq0-3 in
-      let kind-in7 = w.kind_in-kind-then-word_of-eq0-3 in
-      let stmt-in7 = w.stmt_in-s-then-word_of-eq0-3 in
+      let value5 = w.value-in-9 in
+      let ok = w.in-Ok-value-4 in
+      let if17 = w.if-v-eq0-3 in
+      let kind-in7 = w.kind_in-kind-then-v-eq0-3 in
+      let stmt-in7 = w.stmt_in-s-then-v-eq0-3 in
       λ r p a l.
       rw (w.u-is, w.q-is, w.x-is, w.depth-is, w.s-is, w.kind-is, w.tag-is, w.records-is)
       (let g = loop.invariant r p a l in
       let parts = loop_names g more w.in-9.is in
       let answer = rw named14.ensures at value5.ensures in
-      let found = value_found g.ready parts.0 answer if16.false in
-      leaves_on g more w.in-9.is (tests_no (policy_of p) (recipe_of r) (held_now g) (branch_now g) value5.result found word-of4.ensures _
+      let found = value_found g.ready parts.0 answer ∙ ok.is in
+      leaves_on g more w.in-9.is (tests_no (policy_of p) (recipe_of r) (held_now g) (branch_now g) ok.v found _
       if17.true) refl kind-in7.ensures stmt-in7.ensures)
-  | goal.in-9+else-v-ge-FAULT-5+else-word_of-eq0-3 w ↦
+  | goal.in-9+in-Ok-value-4+else-v-eq0-3 w ↦
       let loop = c.loop-step in
       let more = c.loop-step-test.true in
       let named14 = w.named-in-9 in
-      let value5 = w.value-v-in-9 in
-      let if16 = w.if-v-ge-FAULT-5 in
-      let word-of4 = w.word_of-in-9 in
-      let if17 = w.if-word_of-eq0-3 in
-      let tag-of3 = w.tag_of-else-word_of-eq0-3 in
-      let join3 = w.join-tag-else-word_of-eq0-3 in
-      let named15 = w.named-s-else-word_of-eq0-3 in
-      let kind-at7 = w.kind_at-kind-else-word_of-eq0-3 in
+      let value5 = w.value-in-9 in
+      let ok = w.in-Ok-value-4 in
+      let if17 = w.if-v-eq0-3 in
+      let from3 = w.from-else-v-eq0-3 in
+      let join3 = w.join-tag-else-v-eq0-3 in
+      let named15 = w.named-s-else-v-eq0-3 in
+      let kind-at7 = w.kind_at-kind-else-v-eq0-3 in
       λ r p a l.
       rw (w.u-is, w.q-is, w.x-is, w.depth-is, w.s-is, w.kind-is, w.tag-is, w.records-is)
       (let g = loop.invariant r p a l in
       let parts = loop_names g more w.in-9.is in
       let answer = rw named14.ensures at value5.ensures in
-      let found = value_found g.ready parts.0 answer if16.false in
-      let tagged = tag_found g.ready parts.0 answer if16.false in
-      repeats_on g more w.in-9.is (tests_yes (policy_of p) (recipe_of r) (held_now g) (branch_now g) value5.result found word-of4.ensures _
-      if17.false) named15.ensures (join_is g.ready g.standing.branch tagged (rw tag-of3.ensures at join3.ensures)) kind-at7.ensures)
+      let found = value_found g.ready parts.0 answer ∙ ok.is in
+      let tagged = tag_found g.ready parts.0 answer ok.is in
+      repeats_on g more w.in-9.is (tests_yes (policy_of p) (recipe_of r) (held_now g) (branch_now g) ok.v found _
+      if17.false) named15.ensures (join_is g.ready g.standing.branch tagged (rw from3.ensures at join3.ensures)) kind-at7.ensures)
 ]
 
 pub returns-then-kind-eq10 : goal.returns-then-kind-eq10
