@@ -32,16 +32,17 @@ fn frame_word(kind: u32, s: usize, tag: u32) -> u32
     8192 * kind + 16 * (s as u32) + tag
 }
 
-fn kind_in(w: u32) -> usize
-    ensures { result ≡ w / 8192 }
+// The kind of a frame, and the statement that it names.
+fn frame_in(w: u32) -> (usize, usize)
+    ensures { (result.0 ≡ w / 8192) × (result.1 ≡ w / 16 % 512) }
 {
-    (w / 8192) as usize
+    ((w / 8192) as usize, (w / 16 % 512) as usize)
 }
 
-fn stmt_in(w: u32) -> usize
-    ensures { result ≡ w / 16 % 512 }
+fn tag_in(w: u32) -> u32
+    ensures { result ≡ w % 16 }
 {
-    (w / 16 % 512) as usize
+    w % 16
 }
 
 // ---- statements by their numbers
@@ -65,8 +66,8 @@ fn stopped(h: Stop, s: usize, steps: u32, records: u32) -> Outcome
 {
     Outcome {
         end: End::Stopped(h, s),
-        steps: steps,
-        records: records,
+        steps,
+        records,
     }
 }
 
@@ -89,9 +90,7 @@ fn run(t: &[u16; 8466], u: &mut [u64; 2112], limit: usize, q: &mut [u8], budget:
     for step in 0..budget {
         match kind {
             0 => {
-                let w = x.stack[depth];
-                kind = kind_in(w);
-                s = stmt_in(w);
+                (kind, s) = frame_in(x.stack[depth]);
             }
             1 => {
                 let v = match eval::value(t, u, named(t, s, 2)) {
@@ -101,23 +100,19 @@ fn run(t: &[u16; 8466], u: &mut [u64; 2112], limit: usize, q: &mut [u8], budget:
                 if let Err(h) = steps::assign(t, u, tag, named(t, s, 1), v) {
                     return stopped(h, s, step + 1, records);
                 }
-                let w = x.stack[depth];
-                kind = kind_in(w);
-                s = stmt_in(w);
+                (kind, s) = frame_in(x.stack[depth]);
             }
             2 => {
                 if let Err(h) = steps::store(t, u, tag, named(t, s, 1), named(t, s, 2)) {
                     return stopped(h, s, step + 1, records);
                 }
-                let w = x.stack[depth];
-                kind = kind_in(w);
-                s = stmt_in(w);
+                (kind, s) = frame_in(x.stack[depth]);
             }
             3 => {
                 if limit <= depth {
                     return stopped(Stop::Frames, s, step + 1, records);
                 }
-                depth = depth + 1;
+                depth += 1;
                 x.stack[depth] = frame_word(NEXT, named(t, s, 2), 0);
                 s = named(t, s, 1);
                 kind = kind_at(t, s);
@@ -130,7 +125,7 @@ fn run(t: &[u16; 8466], u: &mut [u64; 2112], limit: usize, q: &mut [u8], budget:
                 if limit <= depth {
                     return stopped(Stop::Frames, s, step + 1, records);
                 }
-                depth = depth + 1;
+                depth += 1;
                 x.stack[depth] = frame_word(JOIN, 0, tag);
                 tag = eval::join(t, tag, u32::from(v.tag));
                 if v.value == 0 {
@@ -147,14 +142,12 @@ fn run(t: &[u16; 8466], u: &mut [u64; 2112], limit: usize, q: &mut [u8], budget:
                     Err(h) => return stopped(h, s, step + 1, records),
                 };
                 if v.value == 0 {
-                    let w = x.stack[depth];
-                    kind = kind_in(w);
-                    s = stmt_in(w);
+                    (kind, s) = frame_in(x.stack[depth]);
                 } else {
                     if limit <= depth {
                         return stopped(Stop::Frames, s, step + 1, records);
                     }
-                    depth = depth + 1;
+                    depth += 1;
                     x.stack[depth] = frame_word(LOOP, s, tag);
                     tag = eval::join(t, tag, u32::from(v.tag));
                     s = named(t, s, 2);
@@ -175,21 +168,17 @@ fn run(t: &[u16; 8466], u: &mut [u64; 2112], limit: usize, q: &mut [u8], budget:
                     return stopped(Stop::Room, s, step + 1, records);
                 }
                 memory::put_record(q, o, port as u8, v.value);
-                records = records + 1;
-                let w = x.stack[depth];
-                kind = kind_in(w);
-                s = stmt_in(w);
+                records += 1;
+                (kind, s) = frame_in(x.stack[depth]);
             }
             7 => {
-                depth = depth - 1;
+                depth -= 1;
                 kind = kind_at(t, s);
             }
             8 => {
-                tag = x.stack[depth] % 16;
-                depth = depth - 1;
-                let w = x.stack[depth];
-                kind = kind_in(w);
-                s = stmt_in(w);
+                tag = tag_in(x.stack[depth]);
+                depth -= 1;
+                (kind, s) = frame_in(x.stack[depth]);
             }
             9 => {
                 let v = match eval::value(t, u, named(t, s, 1)) {
@@ -197,11 +186,9 @@ fn run(t: &[u16; 8466], u: &mut [u64; 2112], limit: usize, q: &mut [u8], budget:
                     Err(h) => return stopped(h, s, step + 1, records),
                 };
                 if v.value == 0 {
-                    tag = x.stack[depth] % 16;
-                    depth = depth - 1;
-                    let w = x.stack[depth];
-                    kind = kind_in(w);
-                    s = stmt_in(w);
+                    tag = tag_in(x.stack[depth]);
+                    depth -= 1;
+                    (kind, s) = frame_in(x.stack[depth]);
                 } else {
                     tag = eval::join(t, tag, u32::from(v.tag));
                     s = named(t, s, 2);
@@ -212,7 +199,7 @@ fn run(t: &[u16; 8466], u: &mut [u64; 2112], limit: usize, q: &mut [u8], budget:
                 return Outcome {
                     end: End::Done,
                     steps: step,
-                    records: records,
+                    records,
                 };
             }
         }
@@ -220,7 +207,7 @@ fn run(t: &[u16; 8466], u: &mut [u64; 2112], limit: usize, q: &mut [u8], budget:
     Outcome {
         end: if kind == 10 { End::Done } else { End::Budget },
         steps: budget,
-        records: records,
+        records,
     }
 }
 

@@ -766,12 +766,11 @@ loop-step-preserved c = elim c.match-kind.branch [
   | goal.in-0 w ↦
       let loop = c.loop-step in
       let more = c.loop-step-test.true in
-      let kind-in = w.kind_in-kind in
-      let stmt-in = w.stmt_in-s in
+      let kind-in = w.frame_in in
       λ r p a l.
       rw (w.u-is, w.q-is, w.x-is, w.depth-is, w.s-is, w.kind-is, w.tag-is, w.records-is)
       (let g = loop.invariant r p a l in
-      passes_on g more (begun g more (omega arith) w.in-0.is) refl kind-in.ensures stmt-in.ensures)
+      passes_on g more (begun g more (omega arith) w.in-0.is) refl kind-in.ensures.0 kind-in.ensures.1)
   | goal.in-1+in-Ok+in_default-assign w ↦
       let loop = c.loop-step in
       let more = c.loop-step-test.true in
@@ -780,8 +779,7 @@ loop-step-preserved c = elim c.match-kind.branch [
       let ok = w.in-Ok in
       let named2 = w.named-in-1 in
       let assign = w.assign in
-      let kind-in2 = w.kind_in-kind-in-1 in
-      let stmt-in2 = w.stmt_in-s-in-1 in
+      let kind-in2 = w.frame_in-in-1 in
       λ r p a l.
       rw (w.u-is, w.q-is, w.x-is, w.depth-is, w.s-is, w.kind-is, w.tag-is, w.records-is)
       (let g = loop.invariant r p a l in
@@ -792,15 +790,14 @@ loop-step-preserved c = elim c.match-kind.branch [
       let tagged = tag_found g.ready parts.1 answer ok.is in
       wrote_on g more _ now (act_fits g more (omega arith) w.in-1.is)
       (did_as (policy_of p) (recipe_of r) (held_now g) (branch_now g) _ _ _ _ ok.v found
-      (rw named2.ensures at (assign.ensures r p g.ready g.standing.branch (rw named2.ensures parts.0) tagged))) w.in_default-assign.is kind-in2.ensures stmt-in2.ensures)
+      (rw named2.ensures at (assign.ensures r p g.ready g.standing.branch (rw named2.ensures parts.0) tagged))) w.in_default-assign.is kind-in2.ensures.0 kind-in2.ensures.1)
   | goal.in-2+in_default-store w ↦
       let loop = c.loop-step in
       let more = c.loop-step-test.true in
       let named3 = w.named-in-2 in
       let named4 = w.named-in-2-2 in
       let store = w.store in
-      let kind-in3 = w.kind_in-kind-in-2 in
-      let stmt-in3 = w.stmt_in-s-in-2 in
+      let kind-in3 = w.frame_in-in-2 in
       λ r p a l.
       rw (w.u-is, w.q-is, w.x-is, w.depth-is, w.s-is, w.kind-is, w.tag-is, w.records-is)
       (let g = loop.invariant r p a l in
@@ -808,7 +805,7 @@ loop-step-preserved c = elim c.match-kind.branch [
       let now = begun g more (omega arith) w.in-2.is in
       wrote_on g more _ now (act_fits g more (omega arith) w.in-2.is)
       (rw (named3.ensures, named4.ensures) at (store.ensures r p g.ready g.standing.branch (rw named3.ensures parts.0)
-      (rw named4.ensures parts.1))) w.in_default-store.is kind-in3.ensures stmt-in3.ensures)
+      (rw named4.ensures parts.1))) w.in_default-store.is kind-in3.ensures.0 kind-in3.ensures.1)
   | goal.in-3+else-limit-depth w ↦
       let loop = c.loop-step in
       let more = c.loop-step-test.true in
@@ -877,8 +874,7 @@ loop-step-preserved c = elim c.match-kind.branch [
       let value3 = w.value-in-5 in
       let ok = w.in-Ok-value-2 in
       let if11 = w.if-v-eq0-2 in
-      let kind-in4 = w.kind_in-kind-then-v-eq0-2 in
-      let stmt-in4 = w.stmt_in-s-then-v-eq0-2 in
+      let kind-in4 = w.frame_in-then-v-eq0-2 in
       λ r p a l.
       rw (w.u-is, w.q-is, w.x-is, w.depth-is, w.s-is, w.kind-is, w.tag-is, w.records-is)
       (let g = loop.invariant r p a l in
@@ -887,7 +883,7 @@ loop-step-preserved c = elim c.match-kind.branch [
       let answer = rw named10.ensures at value3.ensures in
       let found = value_found g.ready parts.0 answer ∙ ok.is in
       passes_on g more now (loops_no (policy_of p) (recipe_of r) (held_now g) (branch_now g) ok.v found _ _ if11.true)
-      kind-in4.ensures stmt-in4.ensures)
+      kind-in4.ensures.0 kind-in4.ensures.1)
   | goal.in-5+in-Ok-value-2+else-v-eq0-2+else-limit-depth-3 w ↦
       let loop = c.loop-step in
       let more = c.loop-step-test.true in
@@ -923,8 +919,7 @@ loop-step-preserved c = elim c.match-kind.branch [
       let if14 = w.if-not-may_emit in
       let if15 = w.if-q-o in
       let put_record = w.put_record in
-      let kind-in5 = w.kind_in-kind-in-6 in
-      let stmt-in5 = w.stmt_in-s-in-6 in
+      let kind-in5 = w.frame_in-in-6 in
       λ r p a l.
       rw (w.u-is, w.q-is, w.x-is, w.depth-is, w.s-is, w.kind-is, w.tag-is, w.records-is)
       (let g = loop.invariant r p a l in
@@ -936,7 +931,7 @@ loop-step-preserved c = elim c.match-kind.branch [
       rw (put_record.ensures, named13.ensures) (records_on g more now
       (emits_yes (policy_of p) (recipe_of r) (held_now g) (branch_now g) ok.v found _
       (emit_on g.ready ok.v g.standing.branch (port_names g more (omega arith) w.in-6.is) tagged (rw named13.ensures at may-emit.ensures)
-      if14.false)) (omega (arith, g.same_room, if15.false)) kind-in5.ensures stmt-in5.ensures))
+      if14.false)) (omega (arith, g.same_room, if15.false)) kind-in5.ensures.0 kind-in5.ensures.1))
   | goal.in-7 w ↦
       let loop = c.loop-step in
       let more = c.loop-step-test.true in
@@ -948,12 +943,11 @@ loop-step-preserved c = elim c.match-kind.branch [
   | goal.in-8 w ↦
       let loop = c.loop-step in
       let more = c.loop-step-test.true in
-      let kind-in6 = w.kind_in-kind-in-8 in
-      let stmt-in6 = w.stmt_in-s-in-8 in
+      let kind-in6 = w.frame_in-in-8 in
       λ r p a l.
-      rw (w.u-is, w.q-is, w.x-is, w.depth-is, w.s-is, w.kind-is, w.tag-is, w.records-is)
+      rw (w.u-is, w.q-is, w.x-is, w.depth-is, w.s-is, w.kind-is, w.tag-is, w.tag_in-tag.ensures, w.records-is)
       (let g = loop.invariant r p a l in
-      join_on g more w.in-8.is refl kind-in6.ensures stmt-in6.ensures)
+      join_on g more w.in-8.is refl kind-in6.ensures.0 kind-in6.ensures.1)
   | goal.in-9+in-Ok-value-4+then-v-eq0-3 w ↦
       let loop = c.loop-step in
       let more = c.loop-step-test.true in
@@ -961,16 +955,15 @@ loop-step-preserved c = elim c.match-kind.branch [
       let value5 = w.value-in-9 in
       let ok = w.in-Ok-value-4 in
       let if17 = w.if-v-eq0-3 in
-      let kind-in7 = w.kind_in-kind-then-v-eq0-3 in
-      let stmt-in7 = w.stmt_in-s-then-v-eq0-3 in
+      let kind-in7 = w.frame_in-then-v-eq0-3 in
       λ r p a l.
-      rw (w.u-is, w.q-is, w.x-is, w.depth-is, w.s-is, w.kind-is, w.tag-is, w.records-is)
+      rw (w.u-is, w.q-is, w.x-is, w.depth-is, w.s-is, w.kind-is, w.tag-is, w.tag_in-tag-then-v-eq0-3.ensures, w.records-is)
       (let g = loop.invariant r p a l in
       let parts = loop_names g more w.in-9.is in
       let answer = rw named14.ensures at value5.ensures in
       let found = value_found g.ready parts.0 answer ∙ ok.is in
       leaves_on g more w.in-9.is (tests_no (policy_of p) (recipe_of r) (held_now g) (branch_now g) ok.v found _
-      if17.true) refl kind-in7.ensures stmt-in7.ensures)
+      if17.true) refl kind-in7.ensures.0 kind-in7.ensures.1)
   | goal.in-9+in-Ok-value-4+else-v-eq0-3 w ↦
       let loop = c.loop-step in
       let more = c.loop-step-test.true in
