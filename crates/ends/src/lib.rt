@@ -9,17 +9,10 @@ use rules::{End, Refusal, Stop};
 fn stop_number(h: Stop) -> u32
     ensures { result ≡ stop_number h }
 {
-    match h {
-        Stop::AssignTag => 2,
-        Stop::StoreTag => 3,
-        Stop::EmitTag => 4,
-        Stop::Index => 5,
-        Stop::Divisor => 6,
-        Stop::Room => 7,
-        Stop::Frames => 8,
-    }
+    h as u32
 }
 
+#[tactic(auto, unfolding(rules::specs::Ends::refusal_number))]
 fn refusal_number(x: Refusal) -> u32
     ensures { result ≡ refusal_number x }
 {
@@ -42,6 +35,7 @@ fn refusal_number(x: Refusal) -> u32
     }
 }
 
+#[tactic(auto, unfolding(rules::specs::Ends::refusal_place))]
 fn refusal_place(x: Refusal) -> usize
     ensures { result ≡ refusal_place x }
 {
@@ -64,6 +58,7 @@ fn refusal_place(x: Refusal) -> usize
     }
 }
 
+#[tactic(auto, unfolding(rules::specs::Ends::end_number))]
 pub fn end_number(e: End) -> u32
     ensures { result ≡ end_number e }
 {
@@ -75,6 +70,7 @@ pub fn end_number(e: End) -> u32
     }
 }
 
+#[tactic(auto, unfolding(rules::specs::Ends::end_place))]
 pub fn end_place(e: End) -> usize
     ensures { result ≡ end_place e }
 {

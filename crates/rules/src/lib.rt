@@ -52,16 +52,16 @@ pub struct Place {
     pub tag: u8,
 }
 
-// Why a run ends early.
+// Why a run ends early, each with document 01's number.
 #[derive(Clone, Copy)]
 pub enum Stop {
-    AssignTag,
-    StoreTag,
-    EmitTag,
-    Index,
-    Divisor,
-    Room,
-    Frames,
+    AssignTag = 2,
+    StoreTag = 3,
+    EmitTag = 4,
+    Index = 5,
+    Divisor = 6,
+    Room = 7,
+    Frames = 8,
 }
 
 #[derive(Clone, Copy)]
