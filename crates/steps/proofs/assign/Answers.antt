@@ -2,18 +2,8 @@
 use mathlib.Core.Path.{refl}
 use Rattle.rules.specs.Memory.{value_of, tag_of}
 use Rattle.rules.specs.Steps.{allow}
-use Rattle.steps.proofs.Asked.{var_in, held_good, join_given, join_is, held_under, held_off, same_below}
+use Rattle.steps.proofs.Asked.{var_in, join_is, held_under, held_off}
 use Rattle.steps.proofs.assign.Goals as goal
-
-pub join-requires : goal.join-requires
-join-requires c =
-    let pre = c.requires in
-    join_given pre.ready pre.branch (held_good pre.ready (var_in pre.ready pre.there) c.tag_at-old.ensures)
-
-pub join-g-requires : goal.join-g-requires
-join-g-requires c =
-    let pre = c.requires in
-    join_given pre.ready pre.branch (same_below c.from.ensures pre.tagged)
 
 pub returns-then-join-old : goal.returns-then-join-old
 unfolding allow

@@ -2,22 +2,12 @@
 use mathlib.Core.Path.{refl}
 use Rattle.rules.specs.Memory.{value_of, tag_of}
 use Rattle.rules.specs.Steps.{allow}
-use Rattle.steps.proofs.Asked.{index_off, index_in, cell_is, cell_in_lem, held_given, held_good, join_given, join_is, join_good, held_under, held_off, same_below}
+use Rattle.steps.proofs.Asked.{index_off, index_in, cell_is, cell_in_lem, held_good, join_given, join_is, join_good, held_under, held_off, same_below}
 use Rattle.steps.proofs.store_at.Goals as goal
 
 pub returns-then-t-x : goal.returns-then-t-x
 unfolding allow value_of tag_of
 returns-then-t-x c r p a b i v = rw (index_off a c.if-t-x.true) (refl, refl)
-
-pub join-b-requires : goal.join-b-requires
-join-b-requires c =
-    let pre = c.requires in
-    join_given pre.ready pre.branch (same_below c.from.ensures pre.indexed)
-
-pub tag_at-old-requires : goal.tag_at-old-requires
-tag_at-old-requires c =
-    let ready = c.requires.ready in
-    held_given ready (cell_in_lem ready c.if-t-x.false)
 
 pub join-requires : goal.join-requires
 join-requires c =
@@ -38,11 +28,6 @@ join-g-requires c =
     let pre = c.requires in
     let joined = join_good pre.ready pre.branch pre.indexed (rw c.from.ensures at c.join-b.ensures) in
     join_given pre.ready joined (same_below c.from-2.ensures pre.tagged)
-
-pub put_place-requires : goal.put_place-requires
-put_place-requires c =
-    let ready = c.requires.ready in
-    held_given ready (cell_in_lem ready c.if-t-x.false)
 
 pub returns : goal.returns
 unfolding allow value_of tag_of
