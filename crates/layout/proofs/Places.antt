@@ -15,6 +15,7 @@ use Rattle.rules.specs.Memory.{Memory, ◌#◌, value_of, tag_of, place_at, writ
 use Rattle.rules.specs.Accepted.{Counts}
 use Rattle.rules.proofs.Bytes.{sound_of}
 use Rattle.rules.proofs.Standing.{Sound, PlaceOk, PlacesOk}
+use Rattle.layout.specs.declared.Tables.{Tables}
 use Rattle.layout.specs.Places.{place_in, held_from, held_in, ConstantAs, Ready}
 use Rattle.layout.specs.Answers.{worth_of}
 
@@ -79,7 +80,7 @@ held_write R few u size i z h =
 
 -- ---- ready tables
 
-module _ {r p t u : List ℕ} (a : Ready r p t u) where
+module _ {r p : List ℕ} {t : Tables} {u : List ℕ} (a : Ready r p t u) where
   pub sound_ready : Sound (policy_of p) (recipe_of r)
   sound_ready = sound_of r p a.bytes a.recipe a.policy
 

@@ -10,6 +10,7 @@ use Rattle.rules.specs.Policy.{policy_of}
 use Rattle.rules.specs.Recipe.{Recipe, recipe_of}
 use Rattle.rules.specs.Memory.{Memory, ◌#◌, count}
 use Rattle.rules.specs.Accepted.{WellFormed, LawfulPolicy, PortsOk}
+use Rattle.layout.specs.declared.Tables.{Tables}
 use Rattle.layout.specs.Tables.{Decoded}
 use Rattle.layout.specs.Answers.{answer_of, worth_of}
 
@@ -32,7 +33,7 @@ ConstantAs u e (Binary op a b) = Unit {0}
 ConstantAs u e BadExpr = Unit {0}
 
 -- t and u hold the accepted recipe r and policy p, and a memory whose tags are the policy's
-pub record Ready (r p t u : List ℕ) : Type 0 where
+pub record Ready (r p : List ℕ) (t : Tables) (u : List ℕ) : Type 0 where
   pub bytes : Bytes r
   pub recipe : WellFormed r
   pub policy : LawfulPolicy p
@@ -46,15 +47,15 @@ abbrev pub value_in : (r p u : List ℕ) → ℕ → Valued
 value_in r p u e = eval (policy_of p) (recipe_of r) (held_in (recipe_of r) u) e
 
 -- x is the answer of expression e, for all accepted tables that t and u hold
-abbrev pub Answered : (t u : List ℕ) (e x : ℕ) → Type 0
+abbrev pub Answered : (t : Tables) (u : List ℕ) (e x : ℕ) → Type 0
 Answered t u e x = (r p : List ℕ) → Ready r p t u → e < (recipe_of r).exprs → x ≡ answer_of (value_in r p u e)
 
 -- x is the value of expression e, or its fault, for all accepted tables that t and u hold
-abbrev pub Evaluated : (t u : List ℕ) (e : ℕ) → Valued → Type 0
+abbrev pub Evaluated : (t : Tables) (u : List ℕ) (e : ℕ) → Valued → Type 0
 Evaluated t u e x = (r p : List ℕ) → Ready r p t u → e < (recipe_of r).exprs → x ≡ value_in r p u e
 
 -- there are accepted tables that t and u hold, and e is one of their expressions
-pub record ExprGiven (t u : List ℕ) (e : ℕ) : Type 0 where
+pub record ExprGiven (t : Tables) (u : List ℕ) (e : ℕ) : Type 0 where
   pub recipe : List ℕ
   pub policy : List ℕ
   pub ready : Ready recipe policy t u

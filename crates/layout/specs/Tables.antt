@@ -1,6 +1,5 @@
--- The decoded tables: one array of 16-bit numbers, filled once from an accepted recipe and policy. Expression e stands at 4 e,
--- statement s at 4096 + 4 s, join (a,b) at 8192 + 16 a + b, the clearance of a port at 8448 + port, the numbers of variables and
--- of cells at 8464 and 8465. Assumes nothing.
+-- What the decoded tables hold: a record for each expression and each statement, the policy's joins and clearances, the numbers
+-- of variables and of cells. The join of tags a and b stands at 16 a + b. Assumes nothing.
 use Rattle.std.specs.Prelude.{ℕ, ◌+◌, ◌-◌, ◌*◌, ◌<◌, ◌≡◌, Bool, true, false, List, [], ◌∷◌, get_or, ◌&&◌}
 use Rattle.rules.specs.declared.UnaryOp.{UnaryOp}
 use Rattle.rules.specs.declared.UnaryOp.TheVariants.{Negate, Not, Absolute}
@@ -12,6 +11,17 @@ use Rattle.rules.specs.declared.Stmt.{Stmt}
 use Rattle.rules.specs.declared.Stmt.TheVariants.{Skip, Assign, Store, Then, If, While, Emit, BadStmt}
 use Rattle.rules.specs.Policy.{Policy}
 use Rattle.rules.specs.Recipe.{Recipe}
+use Rattle.layout.specs.declared.Record.{Record}
+use Rattle.layout.specs.declared.Tables.{Tables}
+
+-- ---- records
+
+abbrev pub record_of : (kind first second third : ℕ) → Record
+record_of k a b c = record { kind = k; first = a; second = b; third = c }
+
+-- the record at i
+abbrev pub record_at : List Record → ℕ → Record
+record_at l i = get_or l i (record_of 0 0 0 0)
 
 -- ---- an expression: its code and its operands
 
@@ -100,10 +110,11 @@ right_of R (Unary op a) = 0
 right_of R (Binary op a b) = operand_of R (flat R (Binary op a b)) b
 right_of R BadExpr = 0
 
-pub record ExprAs (R : Recipe) (t : List ℕ) (e : ℕ) (x : Expr) : Type 0 where
-  pub code : get_or t (4 * e) 0 ≡ code_of (flat R x) (operator_of x)
-  pub left : get_or t (4 * e + 1) 0 ≡ left_of R e x
-  pub right : get_or t (4 * e + 2) 0 ≡ right_of R x
+-- a record f is that of expression e, which is x
+pub record ExprAs (R : Recipe) (f : Record) (e : ℕ) (x : Expr) : Type 0 where
+  pub code : f.kind ≡ code_of (flat R x) (operator_of x)
+  pub left : f.first ≡ left_of R e x
+  pub right : f.second ≡ right_of R x
 
 -- ---- a statement: its kind and what it names
 
@@ -147,21 +158,31 @@ third_of (While e a) = 0
 third_of (Emit port e) = 0
 third_of BadStmt = 0
 
-pub record StmtAs (t : List ℕ) (s : ℕ) (x : Stmt) : Type 0 where
-  pub kind : get_or t (4096 + 4 * s) 0 ≡ kind_of x
-  pub first : get_or t (4096 + 4 * s + 1) 0 ≡ first_of x
-  pub second : get_or t (4096 + 4 * s + 2) 0 ≡ second_of x
-  pub third : get_or t (4096 + 4 * s + 3) 0 ≡ third_of x
+-- a record f is that of statement x
+pub record StmtAs (f : Record) (x : Stmt) : Type 0 where
+  pub kind : f.kind ≡ kind_of x
+  pub first : f.first ≡ first_of x
+  pub second : f.second ≡ second_of x
+  pub third : f.third ≡ third_of x
 
 -- ---- both tables
 
-abbrev pub join_in : (t : List ℕ) (a b : ℕ) → ℕ
-join_in t a b = get_or t (8192 + 16 * a + b) 0
+abbrev pub expr_record : Tables → ℕ → Record
+expr_record t e = record_at t.exprs e
 
-pub record Decoded (P : Policy) (R : Recipe) (t : List ℕ) : Type 0 where
-  pub exprs_as : (e : ℕ) → e < R.exprs → ExprAs R t e (R.expr_at e)
-  pub stmts_as : (s : ℕ) → s < R.stmts → StmtAs t s (R.stmt_at s)
+abbrev pub stmt_record : Tables → ℕ → Record
+stmt_record t s = record_at t.stmts s
+
+abbrev pub join_in : Tables → (a b : ℕ) → ℕ
+join_in t a b = get_or t.joins (16 * a + b) 0
+
+abbrev pub clearance_in : Tables → (port : ℕ) → ℕ
+clearance_in t port = get_or t.clearances port 0
+
+pub record Decoded (P : Policy) (R : Recipe) (t : Tables) : Type 0 where
+  pub exprs_as : (e : ℕ) → e < R.exprs → ExprAs R (expr_record t e) e (R.expr_at e)
+  pub stmts_as : (s : ℕ) → s < R.stmts → StmtAs (stmt_record t s) (R.stmt_at s)
   pub joins_as : (a b : ℕ) → a < P.tags → b < P.tags → join_in t a b ≡ P.join a b
-  pub clearances_as : (port : ℕ) → port < P.ports → get_or t (8448 + port) 0 ≡ P.clearance port
-  pub vars_as : get_or t 8464 0 ≡ R.vars
-  pub cells_as : get_or t 8465 0 ≡ R.cells
+  pub clearances_as : (port : ℕ) → port < P.ports → clearance_in t port ≡ P.clearance port
+  pub vars_as : t.vars ≡ R.vars
+  pub cells_as : t.cells ≡ R.cells
