@@ -7,33 +7,24 @@ use Rattle.rules.specs.Bytes.{byte, whole}
 use Rattle.rules.specs.Policy.{policy_of}
 use Rattle.rules.specs.Recipe.{Recipe, recipe_of}
 use Rattle.rules.specs.Memory.{◌#◌}
-use Rattle.layout.specs.Tables.{operator_of, leaf, both_leaves, flat, code_of, operand_of, left_of, right_of, ExprAs, kind_of, first_of, second_of, third_of, StmtAs, join_in}
+use Rattle.layout.specs.Tables.{record_of, record_at, operator_of, leaf, both_leaves, flat, code_of, operand_of, left_of, right_of, ExprAs, kind_of, first_of, second_of, third_of, StmtAs}
 use Rattle.layout.specs.Places.{place_in, ConstantAs}
-use Rattle.decode.specs.declared.Fields.{Fields}
+use Rattle.layout.specs.declared.Record.{Record}
 
 -- ---- records
 
-abbrev pub fields_of : (kind first second third : ℕ) → Fields
-fields_of k a b c = record { kind = k; first = a; second = b; third = c }
-
 -- an operator k and its operands
-abbrev pub one_operand : Recipe → (k a : ℕ) → Fields
-one_operand R k a = fields_of (code_of (leaf (R.expr_at a)) k) (operand_of R (leaf (R.expr_at a)) a) 0 0
+abbrev pub one_operand : Recipe → (k a : ℕ) → Record
+one_operand R k a = record_of (code_of (leaf (R.expr_at a)) k) (operand_of R (leaf (R.expr_at a)) a) 0 0
 
-abbrev pub two_operands : Recipe → (k a b : ℕ) → Fields
-two_operands R k a b = fields_of (code_of (both_leaves R a b) k) (operand_of R (both_leaves R a b) a) (operand_of R (both_leaves R a b) b) 0
+abbrev pub two_operands : Recipe → (k a b : ℕ) → Record
+two_operands R k a b = record_of (code_of (both_leaves R a b) k) (operand_of R (both_leaves R a b) a) (operand_of R (both_leaves R a b) b) 0
 
-abbrev pub expr_fields : Recipe → (e : ℕ) → Expr → Fields
-expr_fields R e x = fields_of (code_of (flat R x) (operator_of x)) (left_of R e x) (right_of R x) 0
+abbrev pub expr_record : Recipe → (e : ℕ) → Expr → Record
+expr_record R e x = record_of (code_of (flat R x) (operator_of x)) (left_of R e x) (right_of R x) 0
 
-abbrev pub stmt_fields : Stmt → Fields
-stmt_fields x = fields_of (kind_of x) (first_of x) (second_of x) (third_of x)
-
-pub record FieldsAt (t : List ℕ) (at : ℕ) (f : Fields) : Type 0 where
-  pub kind_at : get_or t at 0 ≡ f.kind
-  pub first_at : get_or t (at + 1) 0 ≡ f.first
-  pub second_at : get_or t (at + 2) 0 ≡ f.second
-  pub third_at : get_or t (at + 3) 0 ≡ f.third
+abbrev pub stmt_record : Stmt → Record
+stmt_record x = record_of (kind_of x) (first_of x) (second_of x) (third_of x)
 
 -- v is as long as t, and as t below lo
 pub record Kept (lo : ℕ) (t v : List ℕ) : Type 0 where
@@ -43,20 +34,20 @@ pub record Kept (lo : ℕ) (t v : List ℕ) : Type 0 where
 -- ---- the tables
 
 -- the first n of each kind
-abbrev pub ExprsAs : (r : List ℕ) (n : ℕ) (t : List ℕ) → Type 0
-ExprsAs r n t = (e : ℕ) → e < n → ExprAs (recipe_of r) t e ((recipe_of r).expr_at e)
+abbrev pub ExprsAs : (r : List ℕ) (n : ℕ) (exprs : List Record) → Type 0
+ExprsAs r n exprs = (e : ℕ) → e < n → ExprAs (recipe_of r) (record_at exprs e) e ((recipe_of r).expr_at e)
 
-abbrev pub StmtsAs : (r : List ℕ) (n : ℕ) (t : List ℕ) → Type 0
-StmtsAs r n t = (s : ℕ) → s < n → StmtAs t s ((recipe_of r).stmt_at s)
+abbrev pub StmtsAs : (r : List ℕ) (n : ℕ) (stmts : List Record) → Type 0
+StmtsAs r n stmts = (s : ℕ) → s < n → StmtAs (record_at stmts s) ((recipe_of r).stmt_at s)
 
-abbrev pub RowAs : (p : List ℕ) (a n : ℕ) (t : List ℕ) → Type 0
-RowAs p a n t = (b : ℕ) → b < n → join_in t a b ≡ (policy_of p).join a b
+abbrev pub RowAs : (p : List ℕ) (a n : ℕ) (joins : List ℕ) → Type 0
+RowAs p a n joins = (b : ℕ) → b < n → get_or joins (16 * a + b) 0 ≡ (policy_of p).join a b
 
-abbrev pub JoinsAs : (p : List ℕ) (n : ℕ) (t : List ℕ) → Type 0
-JoinsAs p n t = (a : ℕ) → a < n → RowAs p a (byte p 6) t
+abbrev pub JoinsAs : (p : List ℕ) (n : ℕ) (joins : List ℕ) → Type 0
+JoinsAs p n joins = (a : ℕ) → a < n → RowAs p a (byte p 6) joins
 
-abbrev pub ClearancesAs : (p : List ℕ) (n : ℕ) (t : List ℕ) → Type 0
-ClearancesAs p n t = (port : ℕ) → port < n → get_or t (8448 + port) 0 ≡ (policy_of p).clearance port
+abbrev pub ClearancesAs : (p : List ℕ) (n : ℕ) (clearances : List ℕ) → Type 0
+ClearancesAs p n clearances = (port : ℕ) → port < n → get_or clearances port 0 ≡ (policy_of p).clearance port
 
 -- ---- the places
 

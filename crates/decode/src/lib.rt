@@ -7,56 +7,25 @@ ghost use Rattle.rules.specs.Policy.{policy_of};
 ghost use Rattle.rules.specs.Recipe.{Recipe, recipe_of};
 ghost use Rattle.rules.specs.Memory.{places_of, place_bytes, count};
 ghost use Rattle.rules.specs.Accepted.{StmtOk, WellFormed, LawfulPolicy};
-ghost use Rattle.layout.specs.Tables.{unary_number, binary_number, ExprAs, Decoded};
+ghost use Rattle.layout.specs.Tables.{record_of, record_at, unary_number, binary_number, ExprAs, Decoded};
 ghost use Rattle.layout.specs.Places.{held_from, held_in, ConstantAs};
-ghost use Rattle.decode.specs.Filled.{fields_of, one_operand, two_operands, expr_fields, stmt_fields, FieldsAt, Kept, ExprsAs, StmtsAs, RowAs, JoinsAs, ClearancesAs, PlacesAs, ConstantsAs};
+ghost use Rattle.decode.specs.Filled.{one_operand, two_operands, expr_record, stmt_record, Kept, ExprsAs, StmtsAs, RowAs, JoinsAs, ClearancesAs, PlacesAs, ConstantsAs};
 
+use layout::{Record, Tables};
 use rules::{BinaryOp, Expr, Place, Stmt, UnaryOp};
-
-// Where each part of the tables begins; the expressions come first.
-const STMTS: usize = 4096;
-
-const JOINS: usize = 8192;
-
-const CLEARANCES: usize = 8448;
-
-const VARS: usize = 8464;
-
-const CELLS: usize = 8465;
 
 // Where the constants begin, above the memory's places.
 const CONSTANTS: usize = 1088;
 
-// A decoded record: what it is, and the numbers that it names.
-#[derive(Clone, Copy)]
-struct Fields {
-    kind: u16,
-    first: u16,
-    second: u16,
-    third: u16,
-}
-
-impl Fields {
-    fn new(kind: u16, first: u16, second: u16, third: u16) -> Self
-        ensures { result ≡ fields_of kind first second third }
-    {
-        Fields {
-            kind,
-            first,
-            second,
-            third,
-        }
-    }
-}
-
-fn put_fields(t: &mut [u16; 8466], at: usize, f: Fields)
-    requires { at + 3 < 8466 }
-    ensures { FieldsAt t.new at f × Kept at t.old t.new }
+fn record_of(kind: u16, first: u16, second: u16, third: u16) -> Record
+    ensures { result ≡ record_of kind first second third }
 {
-    t[at] = f.kind;
-    t[at + 1] = f.first;
-    t[at + 2] = f.second;
-    t[at + 3] = f.third;
+    Record {
+        kind,
+        first,
+        second,
+        third,
+    }
 }
 
 // ---- expressions
@@ -91,130 +60,128 @@ fn binary_number(op: BinaryOp) -> u16
 
 // An operand that is a leaf is named by its place, which its own record has.
 #[tactic(auto, using(crate::proofs::Tables::leaf_read, crate::proofs::Tables::inner_read))]
-fn one_operand(t: &[u16; 8466], k: u16, a: usize) -> Fields
+fn one_operand(exprs: &[Record; 1024], k: u16, a: usize) -> Record
     requires { (k < 16) × (a < 1024) }
-    ensures { (R : Recipe) → ExprAs R t.now a (R.expr_at a) → result ≡ one_operand R k a }
+    ensures { (R : Recipe) → ExprAs R (record_at exprs.now a) a (R.expr_at a) → result ≡ one_operand R k a }
 {
-    if t[4 * a] == 0 {
-        Fields::new(k, t[4 * a + 1], 0, 0)
+    if exprs[a].kind == 0 {
+        record_of(k, exprs[a].first, 0, 0)
     } else {
-        Fields::new(16 + k, a as u16, 0, 0)
+        record_of(16 + k, a as u16, 0, 0)
     }
 }
 
 // Both operands are named by their places, or neither.
 #[tactic(auto, using(crate::proofs::Tables::leaf_read, crate::proofs::Tables::inner_read))]
-fn two_operands(t: &[u16; 8466], k: u16, a: usize, b: usize) -> Fields
+fn two_operands(exprs: &[Record; 1024], k: u16, a: usize, b: usize) -> Record
     requires { (k < 16) × (a < 1024) × (b < 1024) }
-    ensures { (R : Recipe) → ExprAs R t.now a (R.expr_at a) → ExprAs R t.now b (R.expr_at b) → result ≡ two_operands R k a b }
+    ensures { (R : Recipe) → ExprAs R (record_at exprs.now a) a (R.expr_at a) → ExprAs R (record_at exprs.now b) b (R.expr_at b) → result ≡ two_operands R k a b }
 {
-    if t[4 * a] == 0 && t[4 * b] == 0 {
-        Fields::new(k, t[4 * a + 1], t[4 * b + 1], 0)
+    if exprs[a].kind == 0 && exprs[b].kind == 0 {
+        record_of(k, exprs[a].first, exprs[b].first, 0)
     } else {
-        Fields::new(16 + k, a as u16, b as u16, 0)
+        record_of(16 + k, a as u16, b as u16, 0)
     }
 }
 
 // An expression's operands are lower than itself, so that their records are there.
-fn expr_fields(r: &[u8], t: &[u16; 8466], e: usize) -> Fields
-    requires { WellFormed r.now × (e < (recipe_of r.now).exprs) × ExprsAs r.now e t.now }
-    ensures { result ≡ expr_fields (recipe_of r.now) e ((recipe_of r.now).expr_at e) }
+fn expr_record(r: &[u8], exprs: &[Record; 1024], e: usize) -> Record
+    requires { WellFormed r.now × (e < (recipe_of r.now).exprs) × ExprsAs r.now e exprs.now }
+    ensures { result ≡ expr_record (recipe_of r.now) e ((recipe_of r.now).expr_at e) }
 {
     match tables::expr_at(r, e) {
-        Expr::Constant(_) => Fields::new(0, (CONSTANTS + e) as u16, 0, 0),
-        Expr::Variable(v) => Fields::new(0, v as u16, 0, 0),
-        Expr::Cell(i) => one_operand(t, 1, i),
-        Expr::Unary(op, a) => one_operand(t, unary_number(op), a),
-        Expr::Binary(op, a, b) => two_operands(t, binary_number(op), a, b),
-        Expr::BadExpr => Fields::new(0, 0, 0, 0),
+        Expr::Constant(_) => record_of(0, (CONSTANTS + e) as u16, 0, 0),
+        Expr::Variable(v) => record_of(0, v as u16, 0, 0),
+        Expr::Cell(i) => one_operand(exprs, 1, i),
+        Expr::Unary(op, a) => one_operand(exprs, unary_number(op), a),
+        Expr::Binary(op, a, b) => two_operands(exprs, binary_number(op), a, b),
+        Expr::BadExpr => record_of(0, 0, 0, 0),
     }
 }
 
-fn decode_exprs(r: &[u8], t: &mut [u16; 8466])
+fn decode_exprs(r: &[u8], exprs: &mut [Record; 1024])
     requires { WellFormed r.now }
-    ensures { ExprsAs r.now (recipe_of r.now).exprs t.new }
+    ensures { ExprsAs r.now (recipe_of r.now).exprs exprs.new }
 {
-    let exprs = tables::half_at(r, 6);
-    for e in 0..exprs {
-        let f = expr_fields(r, t, e);
-        put_fields(t, 4 * e, f);
+    let count = tables::half_at(r, 6);
+    for e in 0..count {
+        exprs[e] = expr_record(r, exprs, e);
     }
 }
 
 // ---- statements
 
-fn stmt_fields(x: Stmt) -> Fields
+fn stmt_record(x: Stmt) -> Record
     requires { StmtOk 64 1024 512 x }
-    ensures { result ≡ stmt_fields x }
+    ensures { result ≡ stmt_record x }
 {
     match x {
-        Stmt::Skip => Fields::new(0, 0, 0, 0),
-        Stmt::Assign(v, e) => Fields::new(1, v as u16, e as u16, 0),
-        Stmt::Store(i, e) => Fields::new(2, i as u16, e as u16, 0),
-        Stmt::Then(a, b) => Fields::new(3, a as u16, b as u16, 0),
-        Stmt::If(e, a, b) => Fields::new(4, e as u16, a as u16, b as u16),
-        Stmt::While(e, a) => Fields::new(5, e as u16, a as u16, 0),
-        Stmt::Emit(port, e) => Fields::new(6, e as u16, u16::from(port), 0),
-        Stmt::BadStmt => Fields::new(0, 0, 0, 0),
+        Stmt::Skip => record_of(0, 0, 0, 0),
+        Stmt::Assign(v, e) => record_of(1, v as u16, e as u16, 0),
+        Stmt::Store(i, e) => record_of(2, i as u16, e as u16, 0),
+        Stmt::Then(a, b) => record_of(3, a as u16, b as u16, 0),
+        Stmt::If(e, a, b) => record_of(4, e as u16, a as u16, b as u16),
+        Stmt::While(e, a) => record_of(5, e as u16, a as u16, 0),
+        Stmt::Emit(port, e) => record_of(6, e as u16, u16::from(port), 0),
+        Stmt::BadStmt => record_of(0, 0, 0, 0),
     }
 }
 
-fn decode_stmts(r: &[u8], t: &mut [u16; 8466])
+fn decode_stmts(r: &[u8], stmts: &mut [Record; 512])
     requires { WellFormed r.now }
-    ensures { StmtsAs r.now (recipe_of r.now).stmts t.new × Kept 4096 t.old t.new }
+    ensures { StmtsAs r.now (recipe_of r.now).stmts stmts.new }
 {
-    let stmts = tables::half_at(r, 8);
-    for s in 0..stmts {
-        let f = stmt_fields(tables::stmt_at(r, s));
-        put_fields(t, STMTS + 4 * s, f);
+    let count = tables::half_at(r, 8);
+    for s in 0..count {
+        stmts[s] = stmt_record(tables::stmt_at(r, s));
     }
 }
 
 // ---- the policy
 
-fn decode_row(p: &[u8], a: u8, t: &mut [u16; 8466])
+fn decode_row(p: &[u8], a: u8, joins: &mut [u8; 256])
     requires { LawfulPolicy p.now × (a < byte p.now 6) }
-    ensures { RowAs p.now a (byte p.now 6) t.new × Kept (8192 + 16 * a) t.old t.new }
+    ensures { RowAs p.now a (byte p.now 6) joins.new × Kept (16 * a) joins.old joins.new }
 {
-    let from = JOINS + 16 * usize::from(a);
+    let from = 16 * usize::from(a);
     let tags = p[6];
     for b in 0..tags {
-        t[from + usize::from(b)] = u16::from(policy::join(p, a, b));
+        joins[from + usize::from(b)] = policy::join(p, a, b);
     }
 }
 
-fn decode_joins(p: &[u8], t: &mut [u16; 8466])
+fn decode_joins(p: &[u8], joins: &mut [u8; 256])
     requires { LawfulPolicy p.now }
-    ensures { JoinsAs p.now (byte p.now 6) t.new × Kept 8192 t.old t.new }
+    ensures { JoinsAs p.now (byte p.now 6) joins.new }
 {
     let tags = p[6];
     for a in 0..tags {
-        decode_row(p, a, t);
+        decode_row(p, a, joins);
     }
 }
 
-fn decode_clearances(p: &[u8], t: &mut [u16; 8466])
+fn decode_clearances(p: &[u8], clearances: &mut [u8; 16])
     requires { LawfulPolicy p.now }
-    ensures { ClearancesAs p.now (byte p.now 7) t.new × Kept 8448 t.old t.new }
+    ensures { ClearancesAs p.now (byte p.now 7) clearances.new }
 {
     let ports = p[7];
     for port in 0..ports {
-        t[CLEARANCES + usize::from(port)] = u16::from(policy::clearance(p, port));
+        clearances[usize::from(port)] = policy::clearance(p, port);
     }
 }
 
 // ---- both tables
 
-pub fn decode(r: &[u8], p: &[u8], t: &mut [u16; 8466])
+pub fn decode(r: &[u8], p: &[u8], t: &mut Tables)
     requires { WellFormed r.now × LawfulPolicy p.now }
     ensures { Decoded (policy_of p.now) (recipe_of r.now) t.new }
 {
-    decode_exprs(r, t);
-    decode_stmts(r, t);
-    decode_joins(p, t);
-    decode_clearances(p, t);
-    t[VARS] = tables::half_at(r, 10) as u16;
-    t[CELLS] = tables::half_at(r, 12) as u16;
+    decode_exprs(r, &mut t.exprs);
+    decode_stmts(r, &mut t.stmts);
+    decode_joins(p, &mut t.joins);
+    decode_clearances(p, &mut t.clearances);
+    t.vars = tables::half_at(r, 10) as u16;
+    t.cells = tables::half_at(r, 12) as u16;
 }
 
 // ---- the places

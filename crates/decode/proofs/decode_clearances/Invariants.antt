@@ -1,5 +1,5 @@
-use Rattle.decode.specs.Filled.{ClearancesAs, Kept}
+use Rattle.decode.specs.Filled.{ClearancesAs}
 use Rattle.decode.proofs.decode_clearances.Given as goal
 
 abbrev pub invariant-loop-port : goal.invariant-loop-port
-invariant-loop-port l = ClearancesAs l.p l.port l.t × Kept 8448 l.initial.t l.t
+invariant-loop-port l = ClearancesAs l.p l.port l.clearances

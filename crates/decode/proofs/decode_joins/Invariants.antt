@@ -1,5 +1,5 @@
-use Rattle.decode.specs.Filled.{JoinsAs, Kept}
+use Rattle.decode.specs.Filled.{JoinsAs}
 use Rattle.decode.proofs.decode_joins.Given as goal
 
 abbrev pub invariant-loop-a : goal.invariant-loop-a
-invariant-loop-a l = JoinsAs l.p l.a l.t × Kept 8192 l.initial.t l.t
+invariant-loop-a l = JoinsAs l.p l.a l.joins

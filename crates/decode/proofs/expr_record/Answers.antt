@@ -2,7 +2,7 @@
 use mathlib.Core.Path.{sym, ◌∙◌}
 use Rattle.rules.specs.Recipe.{recipe_of}
 use Rattle.decode.proofs.Tables.{expr_fits}
-use Rattle.decode.proofs.expr_fields.Goals as goal
+use Rattle.decode.proofs.expr_record.Goals as goal
 
 pub returns-in-Cell : goal.returns-in-Cell
 returns-in-Cell c =
