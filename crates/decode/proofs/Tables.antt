@@ -17,14 +17,6 @@ use Rattle.layout.specs.Tables.{record_of, record_at, leaf, place_of, code_of, E
 use Rattle.layout.proofs.Answers.{unary_range, binary_range}
 use Rattle.decode.specs.Filled.{Kept, RowAs, JoinsAs}
 
--- ---- what is kept
-
-pub kept_then : {lo hi : ℕ} {t v w : List ℕ} → lo ≤ hi → Kept lo t v → Kept hi v w → Kept lo t w
-kept_then l a b = record { long = b.long ∙ a.long; below = λ i h. b.below i (omega arith) ∙ a.below i h }
-
-pub kept_set : (lo : ℕ) (t : List ℕ) (i x : ℕ) → lo ≤ i → Kept lo t (set t i x)
-kept_set lo t i x l = record { long = length-set t i x; below = λ j h. get_or-set_other t i j x 0 (λ e. omega arith) }
-
 -- ---- expressions
 
 code_some : (flat : Bool) (k : ℕ) → 0 < k → code_of flat k ≡ 0 → ⊥

@@ -1,5 +1,5 @@
 -- The value of an expression follows from its record in the tables and its operands' answers. Assumes nothing.
-use Prim.Native.Nat.{ℕ, zero, suc, ◌+◌, ◌-◌, ◌*◌, ◌<◌, ◌≤◌}
+use Prim.Native.Nat.{ℕ, zero, suc, ◌+◌, ◌-◌, ◌<◌, ◌≤◌}
 use native.Mathlib.Decide.{dec_lt}
 use native.Mathlib.Omega.{arith}
 use mathlib.Core.Path.{◌≡◌, refl, sym, ap, ◌∙◌}
@@ -26,14 +26,15 @@ use Rattle.rules.specs.Memory.{Memory, value_of, tag_of, count}
 use Rattle.rules.specs.Accepted.{ExprOk}
 use Rattle.rules.proofs.Depth.{eval_is}
 use Rattle.rules.proofs.Standing.{proper}
-use Rattle.layout.specs.Tables.{leaf, place_of, flat, code_of, operand_of, operator_of, left_of, right_of, unary_number, binary_number, unary_from, binary_from}
+use Rattle.layout.specs.declared.Tables.{Tables}
+use Rattle.layout.specs.Tables.{expr_record, leaf, place_of, flat, code_of, operand_of, operator_of, left_of, right_of, unary_number, binary_number, unary_from, binary_from}
 use Rattle.layout.specs.Places.{place_in, held_in, ConstantAs, Ready, value_in, Answered}
 use Rattle.layout.specs.Answers.{answer_of, worth_of}
 use Rattle.layout.proofs.Places.{place_held, sound_ready, places_ready}
 use Rattle.layout.proofs.Answers.{unary_range, binary_range, Worthy, Faulty, is_worth, is_fault}
 use Rattle.eval.specs.Packed.{word_in, tag_in, opened_of, unary_in, binary_in, cell_in, cell_place, CellAsked, applied_in, Applies}
 
-module _ {r p t u : List ℕ} (a : Ready r p t u) where
+module _ {r p : List ℕ} {t : Tables} {u : List ℕ} (a : Ready r p t u) where
   abbrev P : Policy
   P = policy_of p
 
@@ -223,7 +224,7 @@ module _ {r p t u : List ℕ} (a : Ready r p t u) where
       (v ∙ sym (binary_op op (value_in r p u i) (value_in r p u j)))
   kind_of_lem e BadExpr there ok c k l m v = absurd ok
 
-  kind : (e : ℕ) → e < R.exprs → Kind e (get_or t (4 * e) 0) (get_or t (4 * e + 1) 0) (get_or t (4 * e + 2) 0) (value_in r p u e)
+  kind : (e : ℕ) → e < R.exprs → Kind e (expr_record t e).kind (expr_record t e).first (expr_record t e).second (value_in r p u e)
   kind e there =
       let x = a.decoded.exprs_as e there in
       kind_of_lem e (R.expr_at e) there (ok_at e there) (a.constants e there) x.code x.left x.right (value_at e there)
@@ -268,7 +269,7 @@ module _ {r p t u : List ℕ} (a : Ready r p t u) where
   few_tag : {b : ℕ} → b < byte p 6 → b < 16
   few_tag l = omega (arith, a.policy.few_tags)
 
-  cell_in_lem : (i : ℕ) → i < get_or t 8465 0 → get_or t 8464 0 + i < count R
+  cell_in_lem : (i : ℕ) → i < t.cells → t.vars + i < count R
   cell_in_lem i l = omega (arith, a.decoded.vars_as, a.decoded.cells_as)
 
   cell_asked : {x : ℕ} {o : Valued} → Worthy P x o → CellAsked t u x
@@ -324,13 +325,13 @@ module _ {r p t u : List ℕ} (a : Ready r p t u) where
 
   module _ (e : ℕ) (there : e < R.exprs) where
     abbrev code : ℕ
-    code = get_or t (4 * e) 0
+    code = (expr_record t e).kind
 
     abbrev left : ℕ
-    left = get_or t (4 * e + 1) 0
+    left = (expr_record t e).first
 
     abbrev right : ℕ
-    right = get_or t (4 * e + 2) 0
+    right = (expr_record t e).second
 
     module _ (h : code < 16) where
       abbrev shape : Flat code left right (value_in r p u e)

@@ -4,6 +4,7 @@ use Rattle.rules.specs.declared.Stop.TheVariants.{Index, Divisor}
 use Rattle.rules.specs.Operators.{unary, binary, divides}
 use Rattle.rules.specs.Memory.{◌#◌}
 use Rattle.rules.specs.Steps.{Valued, given}
+use Rattle.layout.specs.declared.Tables.{Tables}
 use Rattle.layout.specs.Tables.{unary_from, binary_from, join_in}
 use Rattle.layout.specs.Answers.{answer_of, worth_of, stop_from}
 
@@ -21,30 +22,30 @@ opened_of x = given (ltb x 9223372036854775808) (stop_from (x - 9223372036854775
 abbrev pub unary_in : (k x : ℕ) → ℕ
 unary_in k x = answer_of (Ok (unary (unary_from k) (word_in x) # tag_in x))
 
-abbrev pub binary_in : (t : List ℕ) (k x y : ℕ) → ℕ
+abbrev pub binary_in : (t : Tables) (k x y : ℕ) → ℕ
 binary_in t k x y =
     answer_of (given (divides (binary_from k) (word_in y)) Divisor (Ok (binary (binary_from k) (word_in x) (word_in y) # join_in t (tag_in x) (tag_in y))))
 
 -- the cell at the index in x
-abbrev pub cell_place : (t : List ℕ) (x : ℕ) → ℕ
-cell_place t x = get_or t 8464 0 + word_in x
+abbrev pub cell_place : (t : Tables) (x : ℕ) → ℕ
+cell_place t x = t.vars + word_in x
 
-abbrev pub cell_in : (t u : List ℕ) (x : ℕ) → ℕ
+abbrev pub cell_in : (t : Tables) (u : List ℕ) (x : ℕ) → ℕ
 cell_in t u x =
     let c = get_or u (cell_place t x) 0 in
-    answer_of (given (ltb (word_in x) (get_or t 8465 0)) Index (Ok (word_in c # join_in t (tag_in c) (tag_in x))))
+    answer_of (given (ltb (word_in x) (t.cells)) Index (Ok (word_in c # join_in t (tag_in c) (tag_in x))))
 
 -- an index below the number of cells names a place
-pub record CellAsked (t u : List ℕ) (x : ℕ) : Type 0 where
-  pub few : get_or t 8465 0 ≤ 1024
-  pub inside : word_in x < get_or t 8465 0 → cell_place t x < 2112
-  pub tags : word_in x < get_or t 8465 0 → (tag_in (get_or u (cell_place t x) 0) < 16) × (tag_in x < 16)
+pub record CellAsked (t : Tables) (u : List ℕ) (x : ℕ) : Type 0 where
+  pub few : t.cells ≤ 1024
+  pub inside : word_in x < t.cells → cell_place t x < 2112
+  pub tags : word_in x < t.cells → (tag_in (get_or u (cell_place t x) 0) < 16) × (tag_in x < 16)
 
 -- the operator of number k on x and, if it has two operands, y
-unfoldable pub applied_in : (t u : List ℕ) (k x y : ℕ) → ℕ
+unfoldable pub applied_in : (t : Tables) (u : List ℕ) (k x y : ℕ) → ℕ
 applied_in t u k x y = get_or (x ∷ cell_in t u x ∷ unary_in 2 x ∷ unary_in 3 x ∷ unary_in 4 x ∷ []) k (binary_in t k x y)
 
-pub record Applies (t u : List ℕ) (k x y : ℕ) : Type 0 where
+pub record Applies (t : Tables) (u : List ℕ) (k x y : ℕ) : Type 0 where
   pub some : 0 < k
   pub few : k < 14
   pub cell : k ≡ 1 → CellAsked t u x

@@ -3,11 +3,12 @@
 #![tactic(auto)]
 
 ghost use Rattle.std.specs.Prelude.{◌≡◌, ◌+◌, ◌-◌, ◌*◌, ◌/◌, ◌%◌, ◌<◌, ◌≤◌, get_or};
-ghost use Rattle.layout.specs.Tables.{join_in};
+ghost use Rattle.layout.specs.Tables.{expr_record, join_in};
 ghost use Rattle.layout.specs.Places.{ExprGiven, Answered, Evaluated};
 ghost use Rattle.layout.specs.Answers.{worth_of, stop_from};
 ghost use Rattle.eval.specs.Packed.{tag_in, opened_of, cell_in, applied_in, CellAsked, Applies};
 
+use layout::Tables;
 use rules::{Place, Stop};
 
 // From here on an answer is a fault, whose number is counted from here.
@@ -74,18 +75,11 @@ fn opened(x: u64) -> Result<Place, Stop>
 
 // ---- tags and places
 
-// What is known of a parameter, and not of an array's element, is that it fits its type.
-fn wide(x: u16) -> u32
-    ensures { result ≡ x }
-{
-    x as u32
-}
-
-pub fn join(t: &[u16; 8466], a: u32, b: u32) -> u32
+pub fn join(t: &Tables, a: u32, b: u32) -> u32
     requires { (a < 16) × (b < 16) }
     ensures { result ≡ join_in t.now a b }
 {
-    wide(t[8192 + 16 * (a as usize) + (b as usize)])
+    u32::from(t.joins[16 * (a as usize) + (b as usize)])
 }
 
 pub fn tag_at(u: &[u64; 2112], i: usize) -> u32
@@ -105,26 +99,26 @@ fn one(w: u32, x: u64) -> u64
 }
 
 // A word with the tags of x and y joined.
-fn both(t: &[u16; 8466], w: u32, x: u64, y: u64) -> u64
+fn both(t: &Tables, w: u32, x: u64, y: u64) -> u64
     requires { (tag_in x < 16) × (tag_in y < 16) }
     ensures { result ≡ w + 4294967296 * join_in t.now (tag_in x) (tag_in y) }
 {
     answer(w, join(t, tag_of(x), tag_of(y)))
 }
 
-fn cell(t: &[u16; 8466], u: &[u64; 2112], x: u64) -> u64
+fn cell(t: &Tables, u: &[u64; 2112], x: u64) -> u64
     requires { CellAsked t.now u.now x }
     ensures { result ≡ cell_in t.now u.now x }
 {
-    if (t[8465] as u32) <= word_of(x) {
+    if (t.cells as u32) <= word_of(x) {
         return FAULT + 5;
     }
-    let i = (t[8464] as usize) + (word_of(x) as usize);
+    let i = (t.vars as usize) + (word_of(x) as usize);
     both(t, word_of(u[i]), u[i], x)
 }
 
 // The operator of number k on x and, if it has two operands, y. One table, so that one jump finds it.
-fn apply(t: &[u16; 8466], u: &[u64; 2112], k: u16, x: u64, y: u64) -> u64
+fn apply(t: &Tables, u: &[u64; 2112], k: u16, x: u64, y: u64) -> u64
     requires { Applies t.now u.now k x y }
     ensures { result ≡ applied_in t.now u.now k x y }
 {
@@ -160,32 +154,32 @@ fn apply(t: &[u16; 8466], u: &[u64; 2112], k: u16, x: u64, y: u64) -> u64
 // ---- expressions by their numbers
 
 // A constant or a variable.
-fn leaf(t: &[u16; 8466], u: &[u64; 2112], e: usize) -> u64
-    requires { ExprGiven t.now u.now e × (get_or t.now (4 * e) 0 ≡ 0) }
+fn leaf(t: &Tables, u: &[u64; 2112], e: usize) -> u64
+    requires { ExprGiven t.now u.now e × ((expr_record t.now e).kind ≡ 0) }
     ensures { Answered t.now u.now e result }
 {
-    u[t[4 * e + 1] as usize]
+    u[t.exprs[e].first as usize]
 }
 
 // The operands are leaves, named by their places. What has no second operand names place 0 there.
-fn flat(t: &[u16; 8466], u: &[u64; 2112], e: usize) -> u64
-    requires { ExprGiven t.now u.now e × (0 < get_or t.now (4 * e) 0) × (get_or t.now (4 * e) 0 < 16) }
+fn flat(t: &Tables, u: &[u64; 2112], e: usize) -> u64
+    requires { ExprGiven t.now u.now e × (0 < (expr_record t.now e).kind) × ((expr_record t.now e).kind < 16) }
     ensures { Answered t.now u.now e result }
 {
-    let a = t[4 * e + 1] as usize;
-    let b = t[4 * e + 2] as usize;
-    apply(t, u, t[4 * e], u[a], u[b])
+    let a = t.exprs[e].first as usize;
+    let b = t.exprs[e].second as usize;
+    apply(t, u, t.exprs[e].kind, u[a], u[b])
 }
 
 #[cycle(deep_operand)]
-fn operand(t: &[u16; 8466], u: &[u64; 2112], e: usize) -> u64
+fn operand(t: &Tables, u: &[u64; 2112], e: usize) -> u64
     requires { ExprGiven t.now u.now e }
     ensures { Answered t.now u.now e result }
 {
-    if t[4 * e] == 0 {
+    if t.exprs[e].kind == 0 {
         return leaf(t, u, e);
     }
-    if t[4 * e] < 16 {
+    if t.exprs[e].kind < 16 {
         return flat(t, u, e);
     }
     deep(t, u, e)
@@ -193,19 +187,19 @@ fn operand(t: &[u16; 8466], u: &[u64; 2112], e: usize) -> u64
 
 // Operands have lower numbers than their user, so the expression's own number falls.
 #[cycle(deep_operand)]
-fn deep(t: &[u16; 8466], u: &[u64; 2112], e: usize) -> u64
-    requires { ExprGiven t.now u.now e × (16 ≤ get_or t.now (4 * e) 0) }
+fn deep(t: &Tables, u: &[u64; 2112], e: usize) -> u64
+    requires { ExprGiven t.now u.now e × (16 ≤ (expr_record t.now e).kind) }
     ensures { Answered t.now u.now e result }
 {
-    let k = t[4 * e] - 16;
-    let x = operand(t, u, t[4 * e + 1] as usize);
+    let k = t.exprs[e].kind - 16;
+    let x = operand(t, u, t.exprs[e].first as usize);
     if FAULT <= x {
         return x;
     }
     if k < BINARY {
         return apply(t, u, k, x, x);
     }
-    let y = operand(t, u, t[4 * e + 2] as usize);
+    let y = operand(t, u, t.exprs[e].second as usize);
     if FAULT <= y {
         return y;
     }
@@ -213,14 +207,14 @@ fn deep(t: &[u16; 8466], u: &[u64; 2112], e: usize) -> u64
 }
 
 // Like operand, but no part of the recursion, so that it costs its callers no saved registers. A leaf is never a fault.
-pub fn value(t: &[u16; 8466], u: &[u64; 2112], e: usize) -> Result<Place, Stop>
+pub fn value(t: &Tables, u: &[u64; 2112], e: usize) -> Result<Place, Stop>
     requires { ExprGiven t.now u.now e }
     ensures { Evaluated t.now u.now e result }
 {
-    if t[4 * e] == 0 {
+    if t.exprs[e].kind == 0 {
         return Ok(place_of(leaf(t, u, e)));
     }
-    opened(if t[4 * e] < 16 {
+    opened(if t.exprs[e].kind < 16 {
         flat(t, u, e)
     } else {
         deep(t, u, e)

@@ -3,39 +3,8 @@ use native.Mathlib.Omega.{arith}
 use Rattle.eval.proofs.Values.{left_lower, left_there, right_lower, right_there, left_fault, one_asks, one_value, right_fault, two_asks, two_value}
 use Rattle.eval.proofs.+deep_operand.Goals as goal
 
-pub deep-overflow_mul-k : goal.deep-overflow_mul-k
-deep-overflow_mul-k t c = omega (arith, c.requires.0.ready.recipe.counts.few_exprs, c.requires.0.there)
-
-pub deep-offset_bounds-t-e : goal.deep-offset_bounds-t-e
-deep-offset_bounds-t-e t c = omega (arith, c.requires.0.ready.recipe.counts.few_exprs, c.requires.0.there)
-
-pub deep-bounds-t-e : goal.deep-bounds-t-e
-deep-bounds-t-e t c = omega (arith, c.requires.0.ready.recipe.counts.few_exprs, c.requires.0.there)
-
 pub deep-overflow_sub-k : goal.deep-overflow_sub-k
 deep-overflow_sub-k t c = c.requires.1
-
-pub deep-overflow_mul-e : goal.deep-overflow_mul-e
-deep-overflow_mul-e t c = omega (arith, c.requires.0.ready.recipe.counts.few_exprs, c.requires.0.there)
-
-pub deep-overflow_add-e : goal.deep-overflow_add-e
-deep-overflow_add-e t c = omega (arith, c.requires.0.ready.recipe.counts.few_exprs, c.requires.0.there)
-
-pub deep-offset_bounds-t-e-2 : goal.deep-offset_bounds-t-e-2
-deep-offset_bounds-t-e-2 t c = omega (arith, c.requires.0.ready.recipe.counts.few_exprs, c.requires.0.there)
-
-pub deep-bounds-t-e-2 : goal.deep-bounds-t-e-2
-deep-bounds-t-e-2 t c = omega (arith, c.requires.0.ready.recipe.counts.few_exprs, c.requires.0.there)
-
-pub deep-overflow_cast-t : goal.deep-overflow_cast-t
-deep-overflow_cast-t t c =
-    let pre = c.requires in
-    let args = c.args in
-    let fits = c.ranges in
-    let g = pre.0 in
-    let e = args.e in
-    let h = pre.1 in
-    omega (arith, left_lower g.ready e g.there h, fits.e)
 
 pub deep-operand-x-requires : goal.deep-operand-x-requires
 deep-operand-x-requires t c =
@@ -89,37 +58,6 @@ deep-returns-then-k-lt-BINARY t c =
     let h = pre.1 in
     λ r p a there. let f = operand.ensures _ _ a (left_there a e there h) in
     one_value a e there h f if1.false if2.true _ apply.ensures
-
-pub deep-overflow_mul-e-2 : goal.deep-overflow_mul-e-2
-deep-overflow_mul-e-2 t c =
-    let pre = c.requires in
-    omega (arith, pre.0.ready.recipe.counts.few_exprs, pre.0.there)
-
-pub deep-overflow_add-e-2 : goal.deep-overflow_add-e-2
-deep-overflow_add-e-2 t c =
-    let pre = c.requires in
-    omega (arith, pre.0.ready.recipe.counts.few_exprs, pre.0.there)
-
-pub deep-offset_bounds-t-e-3 : goal.deep-offset_bounds-t-e-3
-deep-offset_bounds-t-e-3 t c =
-    let pre = c.requires in
-    omega (arith, pre.0.ready.recipe.counts.few_exprs, pre.0.there)
-
-pub deep-bounds-t-e-3 : goal.deep-bounds-t-e-3
-deep-bounds-t-e-3 t c =
-    let pre = c.requires in
-    omega (arith, pre.0.ready.recipe.counts.few_exprs, pre.0.there)
-
-pub deep-overflow_cast-t-2 : goal.deep-overflow_cast-t-2
-deep-overflow_cast-t-2 t c =
-    let pre = c.requires in
-    let args = c.args in
-    let fits = c.ranges in
-    let if2 = c.if-k-lt-BINARY in
-    let g = pre.0 in
-    let e = args.e in
-    let h = pre.1 in
-    omega (arith, right_lower g.ready e g.there h if2.false, fits.e)
 
 pub deep-operand-y-requires : goal.deep-operand-y-requires
 deep-operand-y-requires t c =
@@ -180,29 +118,11 @@ deep-returns t c =
     let k = operand2.ensures _ _ a (right_there a e there h if2.false) in
     two_value a e there h f if1.false if2.false k if3.false apply2.ensures
 
-pub operand-overflow_mul-e : goal.operand-overflow_mul-e
-operand-overflow_mul-e t c = omega (arith, c.requires.ready.recipe.counts.few_exprs, c.requires.there)
-
-pub operand-offset_bounds-t-e : goal.operand-offset_bounds-t-e
-operand-offset_bounds-t-e t c = omega (arith, c.requires.ready.recipe.counts.few_exprs, c.requires.there)
-
-pub operand-bounds-t-e : goal.operand-bounds-t-e
-operand-bounds-t-e t c = omega (arith, c.requires.ready.recipe.counts.few_exprs, c.requires.there)
-
 pub operand-leaf-requires : goal.operand-leaf-requires
 operand-leaf-requires t c = (c.requires, c.if-t-e-eq0.true)
 
 pub operand-returns-then-t-e-eq0 : goal.operand-returns-then-t-e-eq0
 operand-returns-then-t-e-eq0 t c = c.leaf.ensures
-
-pub operand-overflow_mul-e-2 : goal.operand-overflow_mul-e-2
-operand-overflow_mul-e-2 t c = omega (arith, c.requires.ready.recipe.counts.few_exprs, c.requires.there)
-
-pub operand-offset_bounds-t-e-2 : goal.operand-offset_bounds-t-e-2
-operand-offset_bounds-t-e-2 t c = omega (arith, c.requires.ready.recipe.counts.few_exprs, c.requires.there)
-
-pub operand-bounds-t-e-2 : goal.operand-bounds-t-e-2
-operand-bounds-t-e-2 t c = omega (arith, c.requires.ready.recipe.counts.few_exprs, c.requires.there)
 
 pub operand-flat-requires : goal.operand-flat-requires
 operand-flat-requires t c = (c.requires, omega (arith, c.if-t-e-eq0.false), c.if-t-e-lt16.true)
