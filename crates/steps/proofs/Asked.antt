@@ -17,7 +17,8 @@ use Rattle.rules.specs.Steps.{Valued, test}
 use Rattle.rules.proofs.Standing.{Proper, value, proper}
 use Rattle.rules.proofs.Tags.{is_under, under_is}
 use Rattle.rules.proofs.Tests.{fails}
-use Rattle.layout.specs.Tables.{join_in}
+use Rattle.layout.specs.declared.Tables.{Tables}
+use Rattle.layout.specs.Tables.{join_in, clearance_in}
 use Rattle.layout.specs.Places.{Ready, held_in, value_in, Evaluated}
 use Rattle.layout.proofs.Places.{sound_ready, places_ready, place_held}
 
@@ -27,7 +28,7 @@ tag_good : {P : Policy} {v : Place} → Proper P (Ok v) → v.tag < P.tags
 unfolding tag_of
 tag_good (value k) = k.good
 
-module _ {r p t u : List ℕ} (a : Ready r p t u) where
+module _ {r p : List ℕ} {t : Tables} {u : List ℕ} (a : Ready r p t u) where
   module _ {e : ℕ} (h : e < (recipe_of r).exprs) {x : Valued} (q : Evaluated t u e x) where
     pub value_found : value_in r p u e ≡ x
     value_found = sym (q r p a h)
@@ -45,26 +46,26 @@ module _ {r p t u : List ℕ} (a : Ready r p t u) where
       let few = a.recipe.counts in
       omega (arith, few.few_vars, few.few_cells)
 
-  pub cell_is : (n : ℕ) → get_or t 8464 0 + n ≡ (recipe_of r).vars + n
+  pub cell_is : (n : ℕ) → t.vars + n ≡ (recipe_of r).vars + n
   cell_is n = omega (arith, a.decoded.vars_as)
 
   module _ {n : ℕ} where
-    pub index_off : get_or t 8465 0 ≤ n → ltb n (recipe_of r).cells ≡ false
+    pub index_off : t.cells ≤ n → ltb n (recipe_of r).cells ≡ false
     index_off h = le-ltb n (recipe_of r).cells (omega (arith, a.decoded.cells_as))
 
-    pub index_in : n < get_or t 8465 0 → ltb n (recipe_of r).cells ≡ true
+    pub index_in : n < t.cells → ltb n (recipe_of r).cells ≡ true
     index_in h = lt-ltb n (recipe_of r).cells (omega (arith, a.decoded.cells_as))
 
-    pub cell_in_lem : n < get_or t 8465 0 → get_or t 8464 0 + n < count (recipe_of r)
+    pub cell_in_lem : n < t.cells → t.vars + n < count (recipe_of r)
     cell_in_lem h = omega (arith, a.decoded.vars_as, a.decoded.cells_as)
 
   -- ---- tags
 
   module _ {port : ℕ} (h : port < byte p 7) where
-    pub clearance_is : get_or t (8448 + port) 0 ≡ (policy_of p).clearance port
+    pub clearance_is : clearance_in t port ≡ (policy_of p).clearance port
     clearance_is = a.decoded.clearances_as port h
 
-    pub clearance_good : get_or t (8448 + port) 0 < byte p 6
+    pub clearance_good : clearance_in t port < byte p 6
     clearance_good = rw clearance_is ((sound_ready a).lawful.clearance_below port)
 
   pub held_good : {i g : ℕ} → i < count (recipe_of r) → g ≡ get_or u i 0 / 4294967296 → g < byte p 6

@@ -1,5 +1,5 @@
 -- A decoded statement is read back from its fields. Assumes nothing.
-use Prim.Native.Nat.{ℕ, ◌+◌, ◌*◌, ◌<◌, ◌≤◌}
+use Prim.Native.Nat.{ℕ, ◌<◌, ◌≤◌}
 use native.Mathlib.Omega.{arith}
 use mathlib.Core.Path.{◌≡◌, refl, sym}
 use mathlib.Core.List.{List, [], ◌∷◌}
@@ -9,7 +9,9 @@ use Rattle.rules.specs.declared.Stmt.TheVariants.{Skip, Assign, Store, Then, If,
 use Rattle.rules.specs.Bytes.{byte}
 use Rattle.rules.specs.Recipe.{recipe_of}
 use Rattle.rules.specs.Accepted.{StmtOk, PortOk}
-use Rattle.layout.specs.Tables.{kind_of, first_of, second_of, third_of, StmtAs}
+use Rattle.layout.specs.declared.Record.{Record}
+use Rattle.layout.specs.declared.Tables.{Tables}
+use Rattle.layout.specs.Tables.{stmt_record, kind_of, first_of, second_of, third_of, StmtAs}
 use Rattle.layout.specs.Places.{Ready}
 
 abbrev pub stmt_from : (k a b c : ℕ) → Stmt
@@ -51,12 +53,12 @@ small lv le ls ln (While e a) h k = record { first = omega arith; second = omega
 small lv le ls ln (Emit port e) h k = record { first = omega arith; second = omega arith; third = omega arith }
 small lv le ls ln BadStmt h k = absurd h
 
-module _ {r p t u : List ℕ} (ready : Ready r p t u) {s : ℕ} (l : s < (recipe_of r).stmts) where
-  pub decoded_as : StmtAs t s ((recipe_of r).stmt_at s)
+module _ {r p : List ℕ} {t : Tables} {u : List ℕ} (ready : Ready r p t u) {s : ℕ} (l : s < (recipe_of r).stmts) where
+  pub decoded_as : StmtAs (stmt_record t s) ((recipe_of r).stmt_at s)
   decoded_as = ready.decoded.stmts_as s l
 
-  abbrev pub field : ℕ → ℕ
-  field i = get_or t (4096 + 4 * s + i) 0
+  abbrev pub named : Record
+  named = stmt_record t s
 
   pub fields : Small ((recipe_of r).stmt_at s)
   fields =
@@ -64,30 +66,30 @@ module _ {r p t u : List ℕ} (ready : Ready r p t u) {s : ℕ} (l : s < (recipe
       small few.few_vars few.few_exprs (omega (arith, few.few_stmts)) ready.policy.few_ports ((recipe_of r).stmt_at s)
       (ready.recipe.ordered.stmts_ok s l) (ready.ports s l)
 
-  pub first_fits : field 1 < 65536
+  pub first_fits : named.first < 65536
   first_fits = rw decoded_as.first fields.first
 
-  pub second_fits : field 2 < 65536
+  pub second_fits : named.second < 65536
   second_fits = rw decoded_as.second fields.second
 
-  pub third_fits : field 3 < 65536
+  pub third_fits : named.third < 65536
   third_fits = rw decoded_as.third fields.third
 
   -- none of the other kinds
   pub emit_kind :
-      ((((((Unit {0} × (get_or t (4096 + 4 * s) 0 ≡ 0 → ⊥)) × (get_or t (4096 + 4 * s) 0 ≡ 1 → ⊥)) × (get_or t (4096 + 4 * s) 0 ≡ 2 → ⊥))
-      × (get_or t (4096 + 4 * s) 0 ≡ 3 → ⊥)) × (get_or t (4096 + 4 * s) 0 ≡ 4 → ⊥)) × (get_or t (4096 + 4 * s) 0 ≡ 5 → ⊥))
-      → get_or t (4096 + 4 * s) 0 ≡ 6
+      ((((((Unit {0} × (named.kind ≡ 0 → ⊥)) × (named.kind ≡ 1 → ⊥)) × (named.kind ≡ 2 → ⊥))
+      × (named.kind ≡ 3 → ⊥)) × (named.kind ≡ 4 → ⊥)) × (named.kind ≡ 5 → ⊥))
+      → named.kind ≡ 6
   emit_kind n =
-      let low : get_or t (4096 + 4 * s) 0 < 7 = rw decoded_as.kind (kind_below ((recipe_of r).stmt_at s)) in
+      let low : named.kind < 7 = rw decoded_as.kind (kind_below ((recipe_of r).stmt_at s)) in
       omega (arith, low, n.1, n.0.1, n.0.0.1, n.0.0.0.1, n.0.0.0.0.1, n.0.0.0.0.0.1)
 
-  module _ {k : ℕ} (q : get_or t (4096 + 4 * s) 0 ≡ k) where
-    pub stmt_is : (recipe_of r).stmt_at s ≡ stmt_from k (field 1) (field 2) (field 3)
+  module _ {k : ℕ} (q : named.kind ≡ k) where
+    pub stmt_is : (recipe_of r).stmt_at s ≡ stmt_from k named.first named.second named.third
     stmt_is = rw (← q, decoded_as.kind, decoded_as.first, decoded_as.second, decoded_as.third) (sym (back (recipe_of r).vars (recipe_of r).exprs s ((recipe_of r).stmt_at s) (ready.recipe.ordered.stmts_ok s l)))
 
-    pub stmt_ok_lem : StmtOk (recipe_of r).vars (recipe_of r).exprs s (stmt_from k (field 1) (field 2) (field 3))
+    pub stmt_ok_lem : StmtOk (recipe_of r).vars (recipe_of r).exprs s (stmt_from k named.first named.second named.third)
     stmt_ok_lem = rw stmt_is at (ready.recipe.ordered.stmts_ok s l)
 
-    pub port_ok_lem : PortOk (byte p 7) (stmt_from k (field 1) (field 2) (field 3))
+    pub port_ok_lem : PortOk (byte p 7) (stmt_from k named.first named.second named.third)
     port_ok_lem = rw stmt_is at (ready.ports s l)

@@ -1,10 +1,11 @@
 // Writing a place and the right to emit: what a statement asks of the places is done here, and what stands in its way is told.
 #![tactic(auto)]
 
-ghost use Rattle.std.specs.Prelude.{◌≡◌, ◌+◌, ◌*◌, ◌<◌, get_or, set};
-ghost use Rattle.layout.specs.Tables.{join_in};
+ghost use Rattle.std.specs.Prelude.{◌≡◌, ◌+◌, ◌*◌, ◌<◌, set};
+ghost use Rattle.layout.specs.Tables.{join_in, clearance_in};
 ghost use Rattle.steps.specs.Asks.{Assigned, Stored, StoredAt, may_emit, AssignGiven, StoreGiven, CellGiven};
 
+use layout::Tables;
 use rules::{Place, Stop};
 
 fn put_place(u: &mut [u64; 2112], i: usize, w: u32, g: u32)
@@ -15,13 +16,7 @@ fn put_place(u: &mut [u64; 2112], i: usize, w: u32, g: u32)
 }
 
 // Gives the end that forbids the assignment, if one does.
-pub fn assign(
-    t: &[u16; 8466],
-    u: &mut [u64; 2112],
-    tag: u32,
-    i: usize,
-    v: Place,
-) -> Result<(), Stop>
+pub fn assign(t: &Tables, u: &mut [u64; 2112], tag: u32, i: usize, v: Place) -> Result<(), Stop>
     requires { AssignGiven t.now u.old tag i v }
     ensures { Assigned t.now u.old tag i v result u.new }
 {
@@ -35,14 +30,14 @@ pub fn assign(
 }
 
 // x is the index.
-fn store_at(t: &[u16; 8466], u: &mut [u64; 2112], tag: u32, x: Place, v: Place) -> Result<(), Stop>
+fn store_at(t: &Tables, u: &mut [u64; 2112], tag: u32, x: Place, v: Place) -> Result<(), Stop>
     requires { CellGiven t.now u.old tag x v }
     ensures { StoredAt t.now u.old tag x v result u.new }
 {
-    if (t[8465] as u32) <= x.value {
+    if (t.cells as u32) <= x.value {
         return Err(Stop::Index);
     }
-    let n = (t[8464] as usize) + (x.value as usize);
+    let n = (t.vars as usize) + (x.value as usize);
     let b = eval::join(t, tag, u32::from(x.tag));
     let old = eval::tag_at(u, n);
     if eval::join(t, b, old) != old {
@@ -54,7 +49,7 @@ fn store_at(t: &[u16; 8466], u: &mut [u64; 2112], tag: u32, x: Place, v: Place) 
 }
 
 // Expression i is the index and e the value. Gives the end that forbids the store, if one does.
-pub fn store(t: &[u16; 8466], u: &mut [u64; 2112], tag: u32, i: usize, e: usize) -> Result<(), Stop>
+pub fn store(t: &Tables, u: &mut [u64; 2112], tag: u32, i: usize, e: usize) -> Result<(), Stop>
     requires { StoreGiven t.now u.old tag i e }
     ensures { Stored t.now u.old tag i e result u.new }
 {
@@ -63,11 +58,11 @@ pub fn store(t: &[u16; 8466], u: &mut [u64; 2112], tag: u32, i: usize, e: usize)
     store_at(t, u, tag, x, v)
 }
 
-pub fn may_emit(t: &[u16; 8466], tag: u32, port: usize, v: Place) -> bool
-    requires { (tag < 16) × (v.tag < 16) × (join_in t.now tag v.tag < 16) × (port < 16) × (get_or t.now (8448 + port) 0 < 16) }
+pub fn may_emit(t: &Tables, tag: u32, port: usize, v: Place) -> bool
+    requires { (tag < 16) × (v.tag < 16) × (join_in t.now tag v.tag < 16) × (port < 16) × (clearance_in t.now port < 16) }
     ensures { result ≡ may_emit t.now tag port v }
 {
-    let clearance = t[8448 + port] as u32;
+    let clearance = u32::from(t.clearances[port]);
     let b = eval::join(t, tag, u32::from(v.tag));
     eval::join(t, b, clearance) == clearance
 }
