@@ -1,11 +1,10 @@
 -- What a statement or a repeated test asks once its expression is evaluated. Assumes nothing.
-use Prim.Native.Nat.{ℕ, ◌+◌, ◌<◌}
+use Prim.Native.Nat.{ℕ, ◌<◌}
 use native.Mathlib.Omega.{arith}
 use mathlib.Core.Path.{◌≡◌, refl, sym, ◌∙◌}
 use mathlib.Core.Bool.{Bool, true, false}
 use mathlib.Core.List.{List}
 use lib.Dec.{eqb}
-use lib.ListN.{get_or}
 use borrow.Author.Tests.{eqb-true, eqb-false}
 use Rattle.rules.specs.declared.Stop.TheVariants.{EmitTag}
 use Rattle.rules.specs.declared.Place.{Place}
@@ -18,7 +17,8 @@ use Rattle.rules.specs.Bytes.{byte}
 use Rattle.rules.specs.Policy.{Policy, policy_of, under}
 use Rattle.rules.specs.Recipe.{Recipe}
 use Rattle.rules.specs.Memory.{Memory, value_of, tag_of}
-use Rattle.layout.specs.Tables.{join_in}
+use Rattle.layout.specs.declared.Tables.{Tables}
+use Rattle.layout.specs.Tables.{join_in, clearance_in}
 use Rattle.layout.specs.Places.{Ready}
 use Rattle.steps.specs.Asks.{Written, Done}
 use Rattle.steps.proofs.Asked.{test_true, test_false, join_is, join_good, clearance_is, clearance_good, lies_under, lies_off}
@@ -62,13 +62,13 @@ module _ (P : Policy) (R : Recipe) (m : Memory) (b : ℕ) {o : Valued} where
 
 -- ---- emission
 
-module _ {r p t u : List ℕ} (a : Ready r p t u) (v : Place) {b port : ℕ} (hb : b < byte p 6) (hp : port < byte p 7) (hv : v.tag < byte p 6) where
-  pub emit_given : (b < 16) × (v.tag < 16) × (join_in t b v.tag < 16) × (port < 16) × (get_or t (8448 + port) 0 < 16)
+module _ {r p : List ℕ} {t : Tables} {u : List ℕ} (a : Ready r p t u) (v : Place) {b port : ℕ} (hb : b < byte p 6) (hp : port < byte p 7) (hv : v.tag < byte p 6) where
+  pub emit_given : (b < 16) × (v.tag < 16) × (join_in t b v.tag < 16) × (port < 16) × (clearance_in t port < 16)
   emit_given =
       let few = a.policy.few_tags in
       (omega (arith, few), omega (arith, few), omega (arith, few, join_good a hb hv refl), omega (arith, a.policy.few_ports), omega (arith, few, clearance_good a hp))
 
-  module _ {d : Bool} (q : d ≡ eqb (join_in t (join_in t b v.tag) (get_or t (8448 + port) 0)) (get_or t (8448 + port) 0)) where
+  module _ {d : Bool} (q : d ≡ eqb (join_in t (join_in t b v.tag) (clearance_in t port)) (clearance_in t port)) where
     pub emit_on : d ≡ true → under (policy_of p) ((policy_of p).join b v.tag) ((policy_of p).clearance port) ≡ true
     emit_on e =
         rw (join_is a hb hv refl, clearance_is a hp) at (lies_under a (join_good a hb hv refl) (clearance_good a hp) refl (eqb-true _ _ (sym q ∙ e)))

@@ -12,6 +12,8 @@ use Rattle.std.specs.Prelude.{Option, Some, None}
 use Rattle.rules.specs.Policy.{policy_of}
 use Rattle.rules.specs.Recipe.{recipe_of}
 use Rattle.rules.proofs.Standing.{FrameOk, FramesOk, WaitingOk}
+use Rattle.layout.specs.declared.Tables.{Tables}
+use Rattle.layout.specs.Tables.{stmt_record}
 use Rattle.layout.specs.Places.{Ready}
 use Rattle.steps.proofs.Statements.{kind_below}
 use Rattle.machine.specs.Frames.{word_of, Held, none, more}
@@ -52,8 +54,8 @@ pushed {st} {d} h f w e l = rw (add-one d) (more f (get_or-set_same st (suc d) w
 -- ---- what is done next
 
 -- statement s of this kind is begun, or the top frame is taken, whose word has this kind and names s
-pub data Turned (t st : List ℕ) (d kind s : ℕ) : Option ℕ → Type 0 where
-  at_stmt : kind ≡ get_or t (4096 + 4 * s) 0 → Turned t st d kind s (Some s)
+pub data Turned (t : Tables) (st : List ℕ) (d kind s : ℕ) : Option ℕ → Type 0 where
+  at_stmt : kind ≡ (stmt_record t s).kind → Turned t st d kind s (Some s)
   at_top : kind ≡ get_or st d 0 / 8192 → s ≡ get_or st d 0 / 16 % 512 → Turned t st d kind s None
 
 frame_kind : (f : Frame) → 7 ≤ word_of f / 8192
@@ -66,8 +68,8 @@ top_kind (none e) = rw e (omega arith)
 top_kind (more f e h) = rw e (frame_kind f)
 
 -- a kind below 7 is a statement's
-pub by_stmt : {t st : List ℕ} {d kind s : ℕ} {w : Option ℕ} {l : List Frame} → Turned t st d kind s w → Held st d l → kind < 7
-    → (w ≡ Some s) × (kind ≡ get_or t (4096 + 4 * s) 0)
+pub by_stmt : {t : Tables} {st : List ℕ} {d kind s : ℕ} {w : Option ℕ} {l : List Frame} → Turned t st d kind s w → Held st d l → kind < 7
+    → (w ≡ Some s) × (kind ≡ (stmt_record t s).kind)
 by_stmt (at_stmt e) h low = (refl, e)
 by_stmt (at_top e f) h low = absurd (omega (arith, top_kind h))
 
@@ -88,7 +90,7 @@ tag_in (Next a) = 0
 tag_in (Join g) = g
 tag_in (Loop s g) = g
 
-module _ {r p t u : List ℕ} (a : Ready r p t u) where
+module _ {r p : List ℕ} {t : Tables} {u : List ℕ} (a : Ready r p t u) where
   few_stmts : (recipe_of r).stmts ≤ 512
   few_stmts = a.recipe.counts.few_stmts
 
@@ -100,8 +102,13 @@ module _ {r p t u : List ℕ} (a : Ready r p t u) where
   frame_parts (Join g) ok {w} e = parts w 8 0 g e (omega arith) (omega (arith, ok, few_tags))
   frame_parts (Loop s g) ok {w} e = parts w 9 s g e (omega (arith, ok.0, few_stmts)) (omega (arith, ok.1, few_tags))
 
-  pub kind_low : (s : ℕ) → s < (recipe_of r).stmts → get_or t (4096 + 4 * s) 0 < 7
+  pub kind_low : (s : ℕ) → s < (recipe_of r).stmts → (stmt_record t s).kind < 7
   kind_low s l = rw (a.decoded.stmts_as s l).kind (kind_below ((recipe_of r).stmt_at s))
+
+  -- what is done next names a statement's number
+  pub low_number : {st : List ℕ} {d kind s : ℕ} {w : Option ℕ} → WaitingOk (recipe_of r) w → Turned t st d kind s w → s < 512
+  low_number ok (at_stmt e) = omega (arith, ok, few_stmts)
+  low_number ok (at_top e f) = rw f (omega arith)
 
   -- frame f is the top, and is taken next
   pub record Top (st : List ℕ) (d : ℕ) (w : Option ℕ) (l : List Frame) (f : Frame) : Type 0 where

@@ -26,7 +26,9 @@ use Rattle.rules.specs.declared.Stmt.{Stmt}
 use Rattle.rules.specs.declared.Stmt.TheVariants.{Skip, Assign, Store, Then, If, While, Emit, BadStmt}
 use Rattle.rules.specs.Bytes.{byte}
 use Rattle.rules.specs.Accepted.{StmtOk, PortOk}
-use Rattle.layout.specs.Tables.{StmtAs}
+use Rattle.layout.specs.declared.Record as decoded
+use Rattle.layout.specs.declared.Tables.{Tables}
+use Rattle.layout.specs.Tables.{stmt_record, StmtAs}
 use Rattle.rules.specs.Steps.{State, state, Turn, Goes, Halts, Finished, eval, begins, Loops, loop_of, no_loop, tests, repeats, loop_in, check, performs, takes, step}
 use Rattle.rules.specs.Run.{Result, ends, follow, run, start}
 use Rattle.rules.specs.Judged.{outcome_of, written_back}
@@ -42,7 +44,7 @@ use Rattle.steps.specs.Asks as asks
 use Rattle.steps.proofs.Statements.{stmt_from, stmt_is, stmt_ok_lem, port_ok_lem}
 use Rattle.machine.specs.Frames.{word_of, Held, none, more}
 use Rattle.machine.specs.Turns.{RunAs}
-use Rattle.machine.proofs.Frames.{frames_length, pushed, Turned, at_stmt, at_top, by_stmt, Top, top_next, top_join, top_loop, top_none}
+use Rattle.machine.proofs.Frames.{frames_length, pushed, Turned, at_stmt, at_top, by_stmt, low_number, Top, top_next, top_join, top_loop, top_none}
 
 -- ---- a run by its first step
 
@@ -103,7 +105,7 @@ same_stop : {h : asks.Written} {x y : Stop} → h ≡ Err x → h ≡ Err y → 
 same_stop e f = cc
 
 -- with a kind that is not the empty word's, something is left to do
-moves_now : (P : Policy) (R : Recipe) (room tag : ℕ) (m : Memory) (c : List Record) {t st : List ℕ} {d kind s : ℕ} {w : Option ℕ} {l : List Frame}
+moves_now : (P : Policy) (R : Recipe) (room tag : ℕ) (m : Memory) (c : List Record) {t : Tables} {st : List ℕ} {d kind s : ℕ} {w : Option ℕ} {l : List Frame}
     → Turned t st d kind s w → Held st d l → (kind ≡ 10 → ⊥) → Moves (step P R room (state tag w l m c))
 moves_now P R room tag m c {s = s} (at_stmt e) h n = moves_performs R room s tag _ m c (begins P R m tag s (R.stmt_at s))
 moves_now P R room tag m c (at_top e f) (none b) n = absurd (n (omega arith))
@@ -118,7 +120,7 @@ Looping no_loop = ⊥
 not_looping : {c b : ℕ} → no_loop ≡ loop_of c b → ⊥
 not_looping e = subst Looping (sym e) tt
 
-while_as : {t : List ℕ} {s c b : ℕ} (x : Stmt) → StmtAs t s x → loop_in x ≡ loop_of c b → x ≡ While (get_or t (4096 + 4 * s + 1) 0) (get_or t (4096 + 4 * s + 2) 0)
+while_as : {f : decoded.Record} {c b : ℕ} (x : Stmt) → StmtAs f x → loop_in x ≡ loop_of c b → x ≡ While f.first f.second
 while_as Skip h k = absurd (not_looping k)
 while_as (Assign x e) h k = absurd (not_looping k)
 while_as (Store i e) h k = absurd (not_looping k)
@@ -150,7 +152,7 @@ abbrev whole : (r p u₀ q₀ : List ℕ) (B : ℕ) → Result
 whole r p u₀ q₀ B = run (policy_of p) (recipe_of r) (length q₀) B 0 (start (recipe_of r) (held_in (recipe_of r) u₀))
 
 -- what is left to run from the state that the loop holds is the whole run
-pub record Stands (r p t u₀ q₀ u q st : List ℕ) (B taken k d kind s tag : ℕ) : Type 0 where
+pub record Stands (r p : List ℕ) (t : Tables) (u₀ q₀ u q st : List ℕ) (B taken k d kind s tag : ℕ) : Type 0 where
   pub ready : Ready r p t u
   pub records : List Record
   pub held : Holds q₀ q records k
@@ -167,8 +169,8 @@ pub record Stands (r p t u₀ q₀ u q st : List ℕ) (B taken k d kind s tag : 
   pub rest : whole r p u₀ q₀ B ≡ run (policy_of p) (recipe_of r) (length q₀) (B - taken) taken (state tag waiting frames (held_in (recipe_of r) u) records)
 
 -- the loop's state as it is first
-pub starts : {r p t u q st : List ℕ} {B kind s : ℕ} → Ready r p t u → length u ≡ 2112 → length st ≡ 513 → get_or st 0 0 ≡ 81920
-    → s ≡ (recipe_of r).stmts - 1 → kind ≡ get_or t (4096 + 4 * s) 0 → Stands r p t u q u q st B 0 0 0 kind s 0
+pub starts : {r p : List ℕ} {t : Tables} {u q st : List ℕ} {B kind s : ℕ} → Ready r p t u → length u ≡ 2112 → length st ≡ 513 → get_or st 0 0 ≡ 81920
+    → s ≡ (recipe_of r).stmts - 1 → kind ≡ (stmt_record t s).kind → Stands r p t u q u q st B 0 0 0 kind s 0
 starts {r} {p} {t} {u} {q} {st} {B} {kind} {s} a all size low e k =
     let R = recipe_of r in
     let z : B - 0 ≡ B = omega arith in
@@ -189,7 +191,7 @@ starts {r} {p} {t} {u} {q} {st} {B} {kind} {s} a all size low e k =
       rest = rw (z, e);
     }
 
-module _ {r p t u₀ q₀ u q st : List ℕ} {B taken k d kind s tag : ℕ} (g : Stands r p t u₀ q₀ u q st B taken k d kind s tag) where
+module _ {r p : List ℕ} {t : Tables} {u₀ q₀ u q st : List ℕ} {B taken k d kind s tag : ℕ} (g : Stands r p t u₀ q₀ u q st B taken k d kind s tag) where
   abbrev P : Policy
   P = policy_of p
 
@@ -215,6 +217,9 @@ module _ {r p t u₀ q₀ u q st : List ℕ} {B taken k d kind s tag : ℕ} (g :
 
   pub branch_low : tag < 16
   branch_low = omega (arith, g.standing.branch, g.ready.policy.few_tags)
+
+  pub stmt_low : s < 512
+  stmt_low = low_number g.ready g.standing.waiting g.turned
 
   -- ---- ends
 
@@ -290,7 +295,7 @@ module _ {r p t u₀ q₀ u q st : List ℕ} {B taken k d kind s tag : ℕ} (g :
       stops_at e = halted (rw e at asked)
 
       module _ {f : Frame} {n b : ℕ} (e : a ≡ Pushes f n b) where
-        pub pushes_on : {w kind' s' tag' : ℕ} → d < R.stmts → w ≡ word_of f → s' ≡ n → tag' ≡ b → kind' ≡ get_or t (4096 + 4 * s') 0
+        pub pushes_on : {w kind' s' tag' : ℕ} → d < R.stmts → w ≡ word_of f → s' ≡ n → tag' ≡ b → kind' ≡ (stmt_record t s').kind
             → Stands r p t u₀ q₀ u q (set st (d + 1) w) B (taken + 1) k (d + 1) kind' s' tag'
         unfolding check
         pushes_on {w} l j i h x =
@@ -343,36 +348,36 @@ module _ {r p t u₀ q₀ u q st : List ℕ} {B taken k d kind s tag : ℕ} (g :
     -- ---- a statement is begun
 
     module _ {c : ℕ} (low : c < 7) (e : kind ≡ c) where
-      here : (g.waiting ≡ Some s) × (kind ≡ get_or t (4096 + 4 * s) 0)
+      here : (g.waiting ≡ Some s) × (kind ≡ (stmt_record t s).kind)
       here = by_stmt g.turned g.stack (omega arith)
 
       pub there : s < R.stmts
       there = rw here.0 at g.standing.waiting
 
-      kind_as : get_or t (4096 + 4 * s) 0 ≡ c
+      kind_as : (stmt_record t s).kind ≡ c
       kind_as = sym here.1 ∙ e
 
-      abbrev pub named : ℕ → ℕ
-      named i = get_or t (4096 + 4 * s + i) 0
+      abbrev pub named : decoded.Record
+      named = stmt_record t s
 
       -- what the statement asks
       abbrev pub asks_now : Act
-      asks_now = begins P R (held_in R u) tag s (stmt_from c (named 1) (named 2) (named 3))
+      asks_now = begins P R (held_in R u) tag s (stmt_from c named.first named.second named.third)
 
-      pub begun : stepped ≡ performs R (length q₀) s tag g.frames (held_in R u) g.records (begins P R (held_in R u) tag s (stmt_from c (named 1) (named 2) (named 3)))
+      pub begun : stepped ≡ performs R (length q₀) s tag g.frames (held_in R u) g.records (begins P R (held_in R u) tag s (stmt_from c named.first named.second named.third))
       begun = rw (here.0, stmt_is g.ready there kind_as)
 
-      pub act_fits : ActOk P R (begins P R (held_in R u) tag s (stmt_from c (named 1) (named 2) (named 3)))
+      pub act_fits : ActOk P R (begins P R (held_in R u) tag s (stmt_from c named.first named.second named.third))
       act_fits = rw (stmt_is g.ready there kind_as) at (act_ok (sound_ready g.ready) there g.standing.branch g.standing.places)
 
-      pub fails_with : {h : Stop} → begins P R (held_in R u) tag s (stmt_from c (named 1) (named 2) (named 3)) ≡ Stops h
+      pub fails_with : {h : Stop} → begins P R (held_in R u) tag s (stmt_from c named.first named.second named.third) ≡ Stops h
           → RunAs r p t u₀ q₀ B (outcome_of (Stopped h s) (taken + 1) k) u q
       fails_with e = stops_at begun e
 
-      pub names : StmtOk R.vars R.exprs s (stmt_from c (named 1) (named 2) (named 3))
+      pub names : StmtOk R.vars R.exprs s (stmt_from c named.first named.second named.third)
       names = stmt_ok_lem g.ready there kind_as
 
-      pub port_names : PortOk (byte p 7) (stmt_from c (named 1) (named 2) (named 3))
+      pub port_names : PortOk (byte p 7) (stmt_from c named.first named.second named.third)
       port_names = port_ok_lem g.ready there kind_as
 
     -- ---- a frame is taken
@@ -386,7 +391,7 @@ module _ {r p t u₀ q₀ u q st : List ℕ} {B taken k d kind s tag : ℕ} (g :
     pub next_there : kind ≡ 7 → s < R.stmts
     next_there e = (rw (next_top e).frames_are at g.standing.frames).0
 
-    pub next_on : kind ≡ 7 → {kind' : ℕ} → kind' ≡ get_or t (4096 + 4 * s) 0 → Stands r p t u₀ q₀ u q st B (taken + 1) k (d - 1) kind' s tag
+    pub next_on : kind ≡ 7 → {kind' : ℕ} → kind' ≡ (stmt_record t s).kind → Stands r p t u₀ q₀ u q st B (taken + 1) k (d - 1) kind' s tag
     next_on e x =
         let z = next_top e in
         stays (step_at P R (length q₀) tag (held_in R u) g.records z.waits z.frames_are) z.below (at_stmt x)
@@ -417,10 +422,10 @@ module _ {r p t u₀ q₀ u q st : List ℕ} {B taken k d kind s tag : ℕ} (g :
       loop_there = frame_fine.0
 
       abbrev pub test_at : ℕ
-      test_at = get_or t (4096 + 4 * s + 1) 0
+      test_at = (stmt_record t s).first
 
       abbrev pub body_at : ℕ
-      body_at = get_or t (4096 + 4 * s + 2) 0
+      body_at = (stmt_record t s).second
 
       is_while : R.stmt_at s ≡ While test_at body_at
       is_while = while_as (R.stmt_at s) (g.ready.decoded.stmts_as s loop_there) frame_fine.2.there
@@ -432,7 +437,7 @@ module _ {r p t u₀ q₀ u q st : List ℕ} {B taken k d kind s tag : ℕ} (g :
       took = step_at P R (length q₀) tag (held_in R u) g.records top.waits top.frames_are ∙ ap (λ x. takes R (length q₀) s tag top.rest (held_in R u) g.records (get_or st d 0 % 16) (repeats P R (held_in R u) tag (loop_in x))) is_while
 
       pub repeats_on : {b : ℕ} → tests P R (held_in R u) tag body_at (eval P R (held_in R u) test_at) ≡ Repeats body_at b
-          → {kind' s' tag' : ℕ} → s' ≡ body_at → tag' ≡ b → kind' ≡ get_or t (4096 + 4 * s') 0 → Stands r p t u₀ q₀ u q st B (taken + 1) k d kind' s' tag'
+          → {kind' s' tag' : ℕ} → s' ≡ body_at → tag' ≡ b → kind' ≡ (stmt_record t s').kind → Stands r p t u₀ q₀ u q st B (taken + 1) k d kind' s' tag'
       repeats_on a i h x = stays ((rw a at took) ∙ goes_as (sym h) (ap Some (sym i)) (sym top.frames_are)) g.stack (at_stmt x)
 
       pub leaves_on : tests P R (held_in R u) tag body_at (eval P R (held_in R u) test_at) ≡ Leaves

@@ -1,11 +1,13 @@
 // The run of accepted tables, and the library's entry, which checks everything and runs.
 #![tactic(auto)]
 
-ghost use Rattle.std.specs.Prelude.{◌≡◌, ◌+◌, ◌*◌, ◌/◌, ◌%◌, ◌<◌, length, get_or};
+ghost use Rattle.std.specs.Prelude.{◌≡◌, ◌+◌, ◌*◌, ◌/◌, ◌%◌, ◌<◌, length};
 ghost use Rattle.rules.specs.Judged.{outcome_of, written_back, ran, checks, judged};
 ghost use Rattle.rules.specs.Accepted.{Accepted};
+ghost use Rattle.layout.specs.Tables.{stmt_record};
 ghost use Rattle.machine.specs.Turns.{LeftAs, RunGiven, RunLeaves};
 
+use layout::Tables;
 use rules::{Checked, End, Outcome, Refusal, Stop};
 
 // The kinds of frames, beside the statements' kinds 0 to 6.
@@ -47,18 +49,11 @@ fn tag_in(w: u32) -> u32
 
 // ---- statements by their numbers
 
-fn kind_at(t: &[u16; 8466], s: usize) -> usize
-    requires { (s < 512) × (get_or t.now (4096 + 4 * s) 0 < 65536) }
-    ensures { result ≡ get_or t.now (4096 + 4 * s) 0 }
+fn kind_at(t: &Tables, s: usize) -> usize
+    requires { s < 512 }
+    ensures { result ≡ (stmt_record t.now s).kind }
 {
-    t[4096 + 4 * s] as usize
-}
-
-fn named(t: &[u16; 8466], s: usize, i: usize) -> usize
-    requires { (s < 512) × (i < 4) × (get_or t.now (4096 + 4 * s + i) 0 < 65536) }
-    ensures { result ≡ get_or t.now (4096 + 4 * s + i) 0 }
-{
-    t[4096 + 4 * s + i] as usize
+    t.stmts[s].kind as usize
 }
 
 fn stopped(h: Stop, s: usize, steps: u32, records: u32) -> Outcome
@@ -75,7 +70,7 @@ fn stopped(h: Stop, s: usize, steps: u32, records: u32) -> Outcome
 
 // One turn of the loop is one step. kind and s say what is done next: statement s of that kind is begun, or the top frame of
 // that kind, which names s, is taken. No arm goes back to the top by itself: with one way back the compiler keeps one loop.
-fn run(t: &[u16; 8466], u: &mut [u64; 2112], limit: usize, q: &mut [u8], budget: u32) -> Outcome
+fn run(t: &Tables, u: &mut [u64; 2112], limit: usize, q: &mut [u8], budget: u32) -> Outcome
     requires { RunGiven t.now u.old limit }
     ensures { RunLeaves t.now u.old limit q.old budget result u.new q.new }
 {
@@ -93,17 +88,23 @@ fn run(t: &[u16; 8466], u: &mut [u64; 2112], limit: usize, q: &mut [u8], budget:
                 (kind, s) = frame_in(x.stack[depth]);
             }
             1 => {
-                let v = match eval::value(t, u, named(t, s, 2)) {
+                let v = match eval::value(t, u, t.stmts[s].second as usize) {
                     Ok(v) => v,
                     Err(h) => return stopped(h, s, step + 1, records),
                 };
-                if let Err(h) = steps::assign(t, u, tag, named(t, s, 1), v) {
+                if let Err(h) = steps::assign(t, u, tag, t.stmts[s].first as usize, v) {
                     return stopped(h, s, step + 1, records);
                 }
                 (kind, s) = frame_in(x.stack[depth]);
             }
             2 => {
-                if let Err(h) = steps::store(t, u, tag, named(t, s, 1), named(t, s, 2)) {
+                if let Err(h) = steps::store(
+                    t,
+                    u,
+                    tag,
+                    t.stmts[s].first as usize,
+                    t.stmts[s].second as usize,
+                ) {
                     return stopped(h, s, step + 1, records);
                 }
                 (kind, s) = frame_in(x.stack[depth]);
@@ -113,12 +114,12 @@ fn run(t: &[u16; 8466], u: &mut [u64; 2112], limit: usize, q: &mut [u8], budget:
                     return stopped(Stop::Frames, s, step + 1, records);
                 }
                 depth += 1;
-                x.stack[depth] = frame_word(NEXT, named(t, s, 2), 0);
-                s = named(t, s, 1);
+                x.stack[depth] = frame_word(NEXT, t.stmts[s].second as usize, 0);
+                s = t.stmts[s].first as usize;
                 kind = kind_at(t, s);
             }
             4 => {
-                let v = match eval::value(t, u, named(t, s, 1)) {
+                let v = match eval::value(t, u, t.stmts[s].first as usize) {
                     Ok(v) => v,
                     Err(h) => return stopped(h, s, step + 1, records),
                 };
@@ -129,15 +130,15 @@ fn run(t: &[u16; 8466], u: &mut [u64; 2112], limit: usize, q: &mut [u8], budget:
                 x.stack[depth] = frame_word(JOIN, 0, tag);
                 tag = eval::join(t, tag, u32::from(v.tag));
                 if v.value == 0 {
-                    s = named(t, s, 3);
+                    s = t.stmts[s].third as usize;
                     kind = kind_at(t, s);
                 } else {
-                    s = named(t, s, 2);
+                    s = t.stmts[s].second as usize;
                     kind = kind_at(t, s);
                 }
             }
             5 => {
-                let v = match eval::value(t, u, named(t, s, 1)) {
+                let v = match eval::value(t, u, t.stmts[s].first as usize) {
                     Ok(v) => v,
                     Err(h) => return stopped(h, s, step + 1, records),
                 };
@@ -150,16 +151,16 @@ fn run(t: &[u16; 8466], u: &mut [u64; 2112], limit: usize, q: &mut [u8], budget:
                     depth += 1;
                     x.stack[depth] = frame_word(LOOP, s, tag);
                     tag = eval::join(t, tag, u32::from(v.tag));
-                    s = named(t, s, 2);
+                    s = t.stmts[s].second as usize;
                     kind = kind_at(t, s);
                 }
             }
             6 => {
-                let v = match eval::value(t, u, named(t, s, 1)) {
+                let v = match eval::value(t, u, t.stmts[s].first as usize) {
                     Ok(v) => v,
                     Err(h) => return stopped(h, s, step + 1, records),
                 };
-                let port = named(t, s, 2);
+                let port = t.stmts[s].second as usize;
                 if !steps::may_emit(t, tag, port, v) {
                     return stopped(Stop::EmitTag, s, step + 1, records);
                 }
@@ -181,7 +182,7 @@ fn run(t: &[u16; 8466], u: &mut [u64; 2112], limit: usize, q: &mut [u8], budget:
                 (kind, s) = frame_in(x.stack[depth]);
             }
             9 => {
-                let v = match eval::value(t, u, named(t, s, 1)) {
+                let v = match eval::value(t, u, t.stmts[s].first as usize) {
                     Ok(v) => v,
                     Err(h) => return stopped(h, s, step + 1, records),
                 };
@@ -191,7 +192,7 @@ fn run(t: &[u16; 8466], u: &mut [u64; 2112], limit: usize, q: &mut [u8], budget:
                     (kind, s) = frame_in(x.stack[depth]);
                 } else {
                     tag = eval::join(t, tag, u32::from(v.tag));
-                    s = named(t, s, 2);
+                    s = t.stmts[s].second as usize;
                     kind = kind_at(t, s);
                 }
             }
@@ -216,7 +217,7 @@ fn run_accepted(r: &[u8], p: &[u8], m: &mut [u8], q: &mut [u8], budget: u32) -> 
     requires { Accepted r.now p.now m.old }
     ensures { LeftAs result m.new q.new (written_back q.old (ran r.now p.now m.old (length q.old) budget)) }
 {
-    let mut t = [0u16; 8466];
+    let mut t = Tables::empty();
     let mut u = [0u64; 2112];
     decode::decode(r, p, &mut t);
     decode::load(r, m, &mut u);
