@@ -1,6 +1,6 @@
 -- What the decoded tables hold: a record for each expression and each statement, the policy's joins and clearances, the numbers
 -- of variables and of cells. The join of tags a and b stands at 16 a + b. Assumes nothing.
-use Rattle.std.specs.Prelude.{ℕ, ◌+◌, ◌-◌, ◌*◌, ◌<◌, ◌≡◌, Bool, true, false, List, [], ◌∷◌, get_or, ◌&&◌}
+use Rattle.std.specs.Prelude.{ℕ, ◌+◌, ◌-◌, ◌*◌, ◌<◌, ◌≡◌, Bool, true, false, List, [], ◌∷◌, get_or, replicate, ◌&&◌}
 use Rattle.rules.specs.declared.UnaryOp.{UnaryOp}
 use Rattle.rules.specs.declared.UnaryOp.TheVariants.{Negate, Not, Absolute}
 use Rattle.rules.specs.declared.BinaryOp.{BinaryOp}
@@ -166,6 +166,18 @@ pub record StmtAs (f : Record) (x : Stmt) : Type 0 where
   pub third : f.third ≡ third_of x
 
 -- ---- both tables
+
+-- tables with nothing decoded: zeros throughout
+abbrev pub no_tables : Tables
+no_tables =
+    record {
+      exprs = replicate 1024 (record_of 0 0 0 0);
+      stmts = replicate 512 (record_of 0 0 0 0);
+      joins = replicate 256 0;
+      clearances = replicate 16 0;
+      vars = 0;
+      cells = 0;
+    }
 
 abbrev pub expr_record : Tables → ℕ → Record
 expr_record t e = record_at t.exprs e

@@ -1,6 +1,9 @@
 // How the run holds accepted tables: the decoded tables as a struct, and the definitions and laws of what it holds.
 #![tactic(auto)]
 
+ghost use Rattle.std.specs.Prelude.{◌≡◌};
+ghost use Rattle.layout.specs.Tables.{no_tables};
+
 // A decoded record: what it is, and the numbers that it names.
 #[derive(Clone, Copy)]
 pub struct Record {
@@ -11,7 +14,7 @@ pub struct Record {
 }
 
 // The decoded tables, filled once from an accepted recipe and policy. The join of tags a and b stands at 16 a + b.
-#[derive(Clone, Copy)]
+#[derive(Drop)]
 pub struct Tables {
     pub exprs: [Record; 1024],
     pub stmts: [Record; 512],
@@ -23,7 +26,9 @@ pub struct Tables {
 
 impl Tables {
     // Nothing decoded yet.
-    pub fn empty() -> Tables {
+    pub fn empty() -> Tables
+        ensures { result ≡ no_tables }
+    {
         let none = Record {
             kind: 0,
             first: 0,
