@@ -111,7 +111,7 @@ moves_now P R room tag m c {s = s} (at_stmt e) h n = moves_performs R room s tag
 moves_now P R room tag m c (at_top e f) (none b) n = absurd (n (omega arith))
 moves_now P R room tag m c (at_top e f) (more x b h) n = moves_frame P R room tag x _ m c
 
--- ---- a loop's statement by its fields
+-- ---- a loop's statement by its record
 
 abbrev Looping : Loops → Type 0
 Looping (loop_of c b) = Unit {0}
@@ -129,11 +129,6 @@ while_as (If e a c) h k = absurd (not_looping k)
 while_as (While e a) h k = rw (h.first, h.second)
 while_as (Emit port e) h k = absurd (not_looping k)
 while_as BadStmt h k = absurd (not_looping k)
-
--- ---- kinds
-
-pub lower : {i s n : ℕ} → s < n → i < s → i < n
-lower h l = omega arith
 
 -- ---- states by their parts
 

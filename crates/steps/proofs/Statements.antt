@@ -1,5 +1,5 @@
 -- A decoded statement is read back from its fields. Assumes nothing.
-use Prim.Native.Nat.{ℕ, ◌<◌, ◌≤◌}
+use Prim.Native.Nat.{ℕ, ◌<◌}
 use native.Mathlib.Omega.{arith}
 use mathlib.Core.Path.{◌≡◌, refl, sym}
 use mathlib.Core.List.{List, [], ◌∷◌}
@@ -37,52 +37,12 @@ kind_below (While e a) = omega arith
 kind_below (Emit port e) = omega arith
 kind_below BadStmt = omega arith
 
--- what a statement names fits 16 bits
-pub record Small (x : Stmt) : Type 0 where
-  pub first : first_of x < 65536
-  pub second : second_of x < 65536
-  pub third : third_of x < 65536
-
-pub small : {v e s n : ℕ} → v ≤ 64 → e ≤ 1024 → s < 512 → n ≤ 16 → (x : Stmt) → StmtOk v e s x → PortOk n x → Small x
-small lv le ls ln Skip h k = record { first = omega arith; second = omega arith; third = omega arith }
-small lv le ls ln (Assign x e) h k = record { first = omega arith; second = omega arith; third = omega arith }
-small lv le ls ln (Store i e) h k = record { first = omega arith; second = omega arith; third = omega arith }
-small lv le ls ln (Then a c) h k = record { first = omega arith; second = omega arith; third = omega arith }
-small lv le ls ln (If e a c) h k = record { first = omega arith; second = omega arith; third = omega arith }
-small lv le ls ln (While e a) h k = record { first = omega arith; second = omega arith; third = omega arith }
-small lv le ls ln (Emit port e) h k = record { first = omega arith; second = omega arith; third = omega arith }
-small lv le ls ln BadStmt h k = absurd h
-
 module _ {r p : List ℕ} {t : Tables} {u : List ℕ} (ready : Ready r p t u) {s : ℕ} (l : s < (recipe_of r).stmts) where
   pub decoded_as : StmtAs (stmt_record t s) ((recipe_of r).stmt_at s)
   decoded_as = ready.decoded.stmts_as s l
 
   abbrev pub named : Record
   named = stmt_record t s
-
-  pub fields : Small ((recipe_of r).stmt_at s)
-  fields =
-      let few = ready.recipe.counts in
-      small few.few_vars few.few_exprs (omega (arith, few.few_stmts)) ready.policy.few_ports ((recipe_of r).stmt_at s)
-      (ready.recipe.ordered.stmts_ok s l) (ready.ports s l)
-
-  pub first_fits : named.first < 65536
-  first_fits = rw decoded_as.first fields.first
-
-  pub second_fits : named.second < 65536
-  second_fits = rw decoded_as.second fields.second
-
-  pub third_fits : named.third < 65536
-  third_fits = rw decoded_as.third fields.third
-
-  -- none of the other kinds
-  pub emit_kind :
-      ((((((Unit {0} × (named.kind ≡ 0 → ⊥)) × (named.kind ≡ 1 → ⊥)) × (named.kind ≡ 2 → ⊥))
-      × (named.kind ≡ 3 → ⊥)) × (named.kind ≡ 4 → ⊥)) × (named.kind ≡ 5 → ⊥))
-      → named.kind ≡ 6
-  emit_kind n =
-      let low : named.kind < 7 = rw decoded_as.kind (kind_below ((recipe_of r).stmt_at s)) in
-      omega (arith, low, n.1, n.0.1, n.0.0.1, n.0.0.0.1, n.0.0.0.0.1, n.0.0.0.0.0.1)
 
   module _ {k : ℕ} (q : named.kind ≡ k) where
     pub stmt_is : (recipe_of r).stmt_at s ≡ stmt_from k named.first named.second named.third
