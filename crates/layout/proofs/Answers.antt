@@ -1,11 +1,7 @@
--- An answer is taken apart again, and the numbers of faults lead back; the ranges of the operators' numbers. Assumes nothing.
+-- An answer is taken apart again, and the numbers of faults lead back. Assumes nothing.
 use Prim.Native.Nat.{ℕ, ◌+◌, ◌-◌, ◌*◌, ◌/◌, ◌%◌, ◌^◌, ◌<◌, ◌≤◌}
 use native.Mathlib.Omega.{arith}
 use mathlib.Core.Path.{◌≡◌, refl, sym, ap}
-use Rattle.rules.specs.declared.UnaryOp.{UnaryOp}
-use Rattle.rules.specs.declared.UnaryOp.TheVariants.{Negate, Not, Absolute}
-use Rattle.rules.specs.declared.BinaryOp.{BinaryOp}
-use Rattle.rules.specs.declared.BinaryOp.TheVariants.{Add, Sub, Mul, Div, Rem, Less, LessEq, Equal, NotEqual}
 use Rattle.rules.specs.declared.Stop.{Stop}
 use Rattle.rules.specs.declared.Stop.TheVariants.{AssignTag, StoreTag, EmitTag, Index, Divisor, Room, Frames}
 use Rattle.rules.specs.declared.Place.{Place}
@@ -15,28 +11,9 @@ use Rattle.rules.specs.Policy.{Policy}
 use Rattle.rules.specs.Memory.{value_of, tag_of}
 use Rattle.rules.specs.Ends.{stop_number}
 use Rattle.rules.proofs.Standing.{Proper, fault, value}
-use Rattle.layout.specs.Tables.{unary_number, binary_number}
 use Rattle.layout.specs.Answers.{answer_of, worth_of, stop_from}
 
 -- ---- numbers
-
-pub unary_range : (op : UnaryOp) → (2 ≤ unary_number op) × (unary_number op < 5)
-unfolding unary_number
-unary_range Negate = (omega arith, omega arith)
-unary_range Not = (omega arith, omega arith)
-unary_range Absolute = (omega arith, omega arith)
-
-pub binary_range : (op : BinaryOp) → (5 ≤ binary_number op) × (binary_number op < 14)
-unfolding binary_number
-binary_range Add = (omega arith, omega arith)
-binary_range Sub = (omega arith, omega arith)
-binary_range Mul = (omega arith, omega arith)
-binary_range Div = (omega arith, omega arith)
-binary_range Rem = (omega arith, omega arith)
-binary_range Less = (omega arith, omega arith)
-binary_range LessEq = (omega arith, omega arith)
-binary_range Equal = (omega arith, omega arith)
-binary_range NotEqual = (omega arith, omega arith)
 
 pub stop_back : (h : Stop) → stop_from (stop_number h) ≡ h
 unfolding stop_from stop_number

@@ -1,6 +1,6 @@
--- What the decoded tables hold: a record for each expression and each statement, the policy's joins and clearances, the numbers
--- of variables and of cells. The join of tags a and b stands at 16 a + b. Assumes nothing.
-use Rattle.std.specs.Prelude.{ℕ, ◌+◌, ◌-◌, ◌*◌, ◌<◌, ◌≡◌, Bool, true, false, List, [], ◌∷◌, get_or, replicate, ◌&&◌}
+-- What the decoded tables hold: a node for each expression, a record for each statement, the policy's joins and clearances, the
+-- numbers of variables and of cells. The join of tags a and b stands at 16 a + b. Assumes nothing.
+use Rattle.std.specs.Prelude.{ℕ, ◌+◌, ◌*◌, ◌<◌, ◌≡◌, Bool, true, false, List, get_or, replicate, ◌&&◌}
 use Rattle.rules.specs.declared.UnaryOp.{UnaryOp}
 use Rattle.rules.specs.declared.UnaryOp.TheVariants.{Negate, Not, Absolute}
 use Rattle.rules.specs.declared.BinaryOp.{BinaryOp}
@@ -12,6 +12,11 @@ use Rattle.rules.specs.declared.Stmt.TheVariants.{Skip, Assign, Store, Then, If,
 use Rattle.rules.specs.Policy.{Policy}
 use Rattle.rules.specs.Recipe.{Recipe}
 use Rattle.layout.specs.declared.Record.{Record}
+use Rattle.layout.specs.declared.Form.{Form}
+use Rattle.layout.specs.declared.Form.TheVariants.{Leaf, Flat, Deep}
+use Rattle.layout.specs.declared.Operator.{Operator}
+use Rattle.layout.specs.declared.Operator.TheVariants as operator
+use Rattle.layout.specs.declared.Node.{Node}
 use Rattle.layout.specs.declared.Tables.{Tables}
 
 -- ---- records
@@ -23,38 +28,55 @@ record_of k a b c = record { kind = k; first = a; second = b; third = c }
 abbrev pub record_at : List Record → ℕ → Record
 record_at l i = get_or l i (record_of 0 0 0 0)
 
--- ---- an expression: its code and its operands
+-- ---- an expression: its form, its operator and its operands
 
--- 0 a leaf, 1 a cell, 2 to 4 the unary operators, 5 to 13 the binary ones
-unfoldable pub unary_number : UnaryOp → ℕ
-unary_number Negate = 2
-unary_number Not = 3
-unary_number Absolute = 4
+abbrev pub node_of : (form : Form) (operator : Operator) (first second : ℕ) → Node
+node_of f k a b = record { form = f; operator = k; first = a; second = b }
 
-unfoldable pub binary_number : BinaryOp → ℕ
-binary_number Add = 5
-binary_number Sub = 6
-binary_number Mul = 7
-binary_number Div = 8
-binary_number Rem = 9
-binary_number Less = 10
-binary_number LessEq = 11
-binary_number Equal = 12
-binary_number NotEqual = 13
+-- the node at i
+abbrev pub node_at : List Node → ℕ → Node
+node_at l i = get_or l i (node_of Leaf operator.Cell 0 0)
 
-unfoldable pub unary_from : ℕ → UnaryOp
-unary_from k = get_or (Negate ∷ Not ∷ []) (k - 2) Absolute
+abbrev pub unary_operator : UnaryOp → Operator
+unary_operator Negate = operator.Negate
+unary_operator Not = operator.Not
+unary_operator Absolute = operator.Absolute
 
-unfoldable pub binary_from : ℕ → BinaryOp
-binary_from k = get_or (Add ∷ Sub ∷ Mul ∷ Div ∷ Rem ∷ Less ∷ LessEq ∷ Equal ∷ []) (k - 5) NotEqual
+abbrev pub binary_operator : BinaryOp → Operator
+binary_operator Add = operator.Add
+binary_operator Sub = operator.Sub
+binary_operator Mul = operator.Mul
+binary_operator Div = operator.Div
+binary_operator Rem = operator.Rem
+binary_operator Less = operator.Less
+binary_operator LessEq = operator.LessEq
+binary_operator Equal = operator.Equal
+binary_operator NotEqual = operator.NotEqual
 
-abbrev pub operator_of : Expr → ℕ
-operator_of (Constant w) = 0
-operator_of (Variable x) = 0
-operator_of (Cell i) = 1
-operator_of (Unary op a) = unary_number op
-operator_of (Binary op a b) = binary_number op
-operator_of BadExpr = 0
+-- the operator has two operands
+abbrev pub has_two : Operator → Bool
+has_two operator.Cell = false
+has_two operator.Negate = false
+has_two operator.Not = false
+has_two operator.Absolute = false
+has_two operator.Add = true
+has_two operator.Sub = true
+has_two operator.Mul = true
+has_two operator.Div = true
+has_two operator.Rem = true
+has_two operator.Less = true
+has_two operator.LessEq = true
+has_two operator.Equal = true
+has_two operator.NotEqual = true
+
+-- a leaf has none, and keeps Cell
+abbrev pub operator_of : Expr → Operator
+operator_of (Constant w) = operator.Cell
+operator_of (Variable x) = operator.Cell
+operator_of (Cell i) = operator.Cell
+operator_of (Unary op a) = unary_operator op
+operator_of (Binary op a b) = binary_operator op
+operator_of BadExpr = operator.Cell
 
 -- a leaf has a place; a constant has one of its own
 abbrev pub leaf : Expr → Bool
@@ -85,11 +107,19 @@ flat R (Unary op a) = leaf (R.expr_at a)
 flat R (Binary op a b) = both_leaves R a b
 flat R BadExpr = true
 
--- a flat expression names its operands' places, another one, by a code 16 above its operator's, the operands
-abbrev pub code_of : (flat : Bool) → ℕ → ℕ
-code_of true k = k
-code_of false k = 16 + k
+abbrev pub form_by : (flat : Bool) → Form
+form_by true = Flat
+form_by false = Deep
 
+abbrev pub form_of : Recipe → Expr → Form
+form_of R (Constant w) = Leaf
+form_of R (Variable x) = Leaf
+form_of R (Cell i) = form_by (flat R (Cell i))
+form_of R (Unary op a) = form_by (flat R (Unary op a))
+form_of R (Binary op a b) = form_by (flat R (Binary op a b))
+form_of R BadExpr = Leaf
+
+-- a flat expression names its operands' places, a deep one the operands
 abbrev pub operand_of : Recipe → (flat : Bool) → ℕ → ℕ
 operand_of R true a = place_of a (R.expr_at a)
 operand_of R false a = a
@@ -110,9 +140,10 @@ right_of R (Unary op a) = 0
 right_of R (Binary op a b) = operand_of R (flat R (Binary op a b)) b
 right_of R BadExpr = 0
 
--- a record f is that of expression e, which is x
-pub record ExprAs (R : Recipe) (f : Record) (e : ℕ) (x : Expr) : Type 0 where
-  pub code : f.kind ≡ code_of (flat R x) (operator_of x)
+-- a node f is that of expression e, which is x
+pub record ExprAs (R : Recipe) (f : Node) (e : ℕ) (x : Expr) : Type 0 where
+  pub form : f.form ≡ form_of R x
+  pub operator : f.operator ≡ operator_of x
   pub left : f.first ≡ left_of R e x
   pub right : f.second ≡ right_of R x
 
@@ -167,11 +198,11 @@ pub record StmtAs (f : Record) (x : Stmt) : Type 0 where
 
 -- ---- both tables
 
--- tables with nothing decoded: zeros throughout
+-- tables with nothing decoded: leaves and zeros throughout
 abbrev pub no_tables : Tables
 no_tables =
     record {
-      exprs = replicate 1024 (record_of 0 0 0 0);
+      exprs = replicate 1024 (node_of Leaf operator.Cell 0 0);
       stmts = replicate 512 (record_of 0 0 0 0);
       joins = replicate 256 0;
       clearances = replicate 16 0;
@@ -179,8 +210,8 @@ no_tables =
       cells = 0;
     }
 
-abbrev pub expr_record : Tables → ℕ → Record
-expr_record t e = record_at t.exprs e
+abbrev pub expr_node : Tables → ℕ → Node
+expr_node t e = node_at t.exprs e
 
 abbrev pub stmt_record : Tables → ℕ → Record
 stmt_record t s = record_at t.stmts s
@@ -192,7 +223,7 @@ abbrev pub clearance_in : Tables → (port : ℕ) → ℕ
 clearance_in t port = get_or t.clearances port 0
 
 pub record Decoded (P : Policy) (R : Recipe) (t : Tables) : Type 0 where
-  pub exprs_as : (e : ℕ) → e < R.exprs → ExprAs R (expr_record t e) e (R.expr_at e)
+  pub exprs_as : (e : ℕ) → e < R.exprs → ExprAs R (expr_node t e) e (R.expr_at e)
   pub stmts_as : (s : ℕ) → s < R.stmts → StmtAs (stmt_record t s) (R.stmt_at s)
   pub joins_as : (a b : ℕ) → a < P.tags → b < P.tags → join_in t a b ≡ P.join a b
   pub clearances_as : (port : ℕ) → port < P.ports → clearance_in t port ≡ P.clearance port

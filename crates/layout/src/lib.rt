@@ -4,7 +4,7 @@
 ghost use Rattle.std.specs.Prelude.{◌≡◌};
 ghost use Rattle.layout.specs.Tables.{no_tables};
 
-// A decoded record: what it is, and the numbers that it names.
+// A decoded statement: what it is, and the numbers that it names.
 #[derive(Clone, Copy)]
 pub struct Record {
     pub kind: u16,
@@ -13,10 +13,45 @@ pub struct Record {
     pub third: u16,
 }
 
+// A leaf is known by its place, a flat expression by its operands' places, a deep one by its operands' numbers.
+#[derive(Clone, Copy)]
+pub enum Form {
+    Leaf,
+    Flat,
+    Deep,
+}
+
+// What an expression does with its operands.
+#[derive(Clone, Copy)]
+pub enum Operator {
+    Cell,
+    Negate,
+    Not,
+    Absolute,
+    Add,
+    Sub,
+    Mul,
+    Div,
+    Rem,
+    Less,
+    LessEq,
+    Equal,
+    NotEqual,
+}
+
+// A decoded expression. A leaf does nothing: its operator is Cell, and no one asks for it.
+#[derive(Clone, Copy)]
+pub struct Node {
+    pub form: Form,
+    pub operator: Operator,
+    pub first: u16,
+    pub second: u16,
+}
+
 // The decoded tables, filled once from an accepted recipe and policy. The join of tags a and b stands at 16 a + b.
 #[derive(Drop)]
 pub struct Tables {
-    pub exprs: [Record; 1024],
+    pub exprs: [Node; 1024],
     pub stmts: [Record; 512],
     pub joins: [u8; 256],
     pub clearances: [u8; 16],
@@ -29,6 +64,12 @@ impl Tables {
     pub fn empty() -> Tables
         ensures { result ≡ no_tables }
     {
+        let leaf = Node {
+            form: Form::Leaf,
+            operator: Operator::Cell,
+            first: 0,
+            second: 0,
+        };
         let none = Record {
             kind: 0,
             first: 0,
@@ -36,7 +77,7 @@ impl Tables {
             third: 0,
         };
         Tables {
-            exprs: [none; 1024],
+            exprs: [leaf; 1024],
             stmts: [none; 512],
             joins: [0; 256],
             clearances: [0; 16],
