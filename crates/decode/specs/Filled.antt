@@ -7,21 +7,23 @@ use Rattle.rules.specs.Bytes.{byte, whole}
 use Rattle.rules.specs.Policy.{policy_of}
 use Rattle.rules.specs.Recipe.{Recipe, recipe_of}
 use Rattle.rules.specs.Memory.{◌#◌}
-use Rattle.layout.specs.Tables.{record_of, record_at, operator_of, leaf, both_leaves, flat, code_of, operand_of, left_of, right_of, ExprAs, kind_of, first_of, second_of, third_of, StmtAs}
+use Rattle.layout.specs.Tables.{node_of, node_at, record_of, record_at, operator_of, leaf, both_leaves, form_by, form_of, operand_of, left_of, right_of, ExprAs, kind_of, first_of, second_of, third_of, StmtAs}
 use Rattle.layout.specs.Places.{place_in, ConstantAs}
+use Rattle.layout.specs.declared.Operator.{Operator}
+use Rattle.layout.specs.declared.Node.{Node}
 use Rattle.layout.specs.declared.Record.{Record}
 
--- ---- records
+-- ---- nodes and records
 
 -- an operator k and its operands
-abbrev pub one_operand : Recipe → (k a : ℕ) → Record
-one_operand R k a = record_of (code_of (leaf (R.expr_at a)) k) (operand_of R (leaf (R.expr_at a)) a) 0 0
+abbrev pub one_operand : Recipe → (k : Operator) (a : ℕ) → Node
+one_operand R k a = node_of (form_by (leaf (R.expr_at a))) k (operand_of R (leaf (R.expr_at a)) a) 0
 
-abbrev pub two_operands : Recipe → (k a b : ℕ) → Record
-two_operands R k a b = record_of (code_of (both_leaves R a b) k) (operand_of R (both_leaves R a b) a) (operand_of R (both_leaves R a b) b) 0
+abbrev pub two_operands : Recipe → (k : Operator) (a b : ℕ) → Node
+two_operands R k a b = node_of (form_by (both_leaves R a b)) k (operand_of R (both_leaves R a b) a) (operand_of R (both_leaves R a b) b)
 
-abbrev pub expr_record : Recipe → (e : ℕ) → Expr → Record
-expr_record R e x = record_of (code_of (flat R x) (operator_of x)) (left_of R e x) (right_of R x) 0
+abbrev pub expr_node : Recipe → (e : ℕ) → Expr → Node
+expr_node R e x = node_of (form_of R x) (operator_of x) (left_of R e x) (right_of R x)
 
 abbrev pub stmt_record : Stmt → Record
 stmt_record x = record_of (kind_of x) (first_of x) (second_of x) (third_of x)
@@ -34,8 +36,8 @@ pub record Kept (lo : ℕ) (t v : List ℕ) : Type 0 where
 -- ---- the tables
 
 -- the first n of each kind
-abbrev pub ExprsAs : (r : List ℕ) (n : ℕ) (exprs : List Record) → Type 0
-ExprsAs r n exprs = (e : ℕ) → e < n → ExprAs (recipe_of r) (record_at exprs e) e ((recipe_of r).expr_at e)
+abbrev pub ExprsAs : (r : List ℕ) (n : ℕ) (exprs : List Node) → Type 0
+ExprsAs r n exprs = (e : ℕ) → e < n → ExprAs (recipe_of r) (node_at exprs e) e ((recipe_of r).expr_at e)
 
 abbrev pub StmtsAs : (r : List ℕ) (n : ℕ) (stmts : List Record) → Type 0
 StmtsAs r n stmts = (s : ℕ) → s < n → StmtAs (record_at stmts s) ((recipe_of r).stmt_at s)

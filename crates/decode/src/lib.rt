@@ -7,15 +7,105 @@ ghost use Rattle.rules.specs.Policy.{policy_of};
 ghost use Rattle.rules.specs.Recipe.{Recipe, recipe_of};
 ghost use Rattle.rules.specs.Memory.{places_of, place_bytes, count};
 ghost use Rattle.rules.specs.Accepted.{StmtOk, WellFormed, LawfulPolicy};
-ghost use Rattle.layout.specs.Tables.{record_of, record_at, unary_number, binary_number, ExprAs, Decoded};
+ghost use Rattle.layout.specs.Tables.{node_of, node_at, unary_operator, binary_operator, record_of, ExprAs, Decoded};
 ghost use Rattle.layout.specs.Places.{held_from, held_in, ConstantAs};
-ghost use Rattle.decode.specs.Filled.{one_operand, two_operands, expr_record, stmt_record, Kept, ExprsAs, StmtsAs, RowAs, JoinsAs, ClearancesAs, PlacesAs, ConstantsAs};
+ghost use Rattle.decode.specs.Filled.{one_operand, two_operands, expr_node, stmt_record, Kept, ExprsAs, StmtsAs, RowAs, JoinsAs, ClearancesAs, PlacesAs, ConstantsAs};
 
-use layout::{Record, Tables};
+use layout::{Form, Node, Operator, Record, Tables};
 use rules::{BinaryOp, Expr, Place, Stmt, UnaryOp};
 
 // Where the constants begin, above the memory's places.
 const CONSTANTS: usize = 1088;
+
+// ---- expressions
+
+fn node_of(form: Form, operator: Operator, first: u16, second: u16) -> Node
+    ensures { result ≡ node_of form operator first second }
+{
+    Node {
+        form,
+        operator,
+        first,
+        second,
+    }
+}
+
+fn unary(op: UnaryOp) -> Operator
+    ensures { result ≡ unary_operator op }
+{
+    match op {
+        UnaryOp::Negate => Operator::Negate,
+        UnaryOp::Not => Operator::Not,
+        UnaryOp::Absolute => Operator::Absolute,
+    }
+}
+
+fn binary(op: BinaryOp) -> Operator
+    ensures { result ≡ binary_operator op }
+{
+    match op {
+        BinaryOp::Add => Operator::Add,
+        BinaryOp::Sub => Operator::Sub,
+        BinaryOp::Mul => Operator::Mul,
+        BinaryOp::Div => Operator::Div,
+        BinaryOp::Rem => Operator::Rem,
+        BinaryOp::Less => Operator::Less,
+        BinaryOp::LessEq => Operator::LessEq,
+        BinaryOp::Equal => Operator::Equal,
+        BinaryOp::NotEqual => Operator::NotEqual,
+    }
+}
+
+// An operand that is a leaf is named by its place, which its own node has.
+#[tactic(auto, using(crate::proofs::Tables::leaf_read, crate::proofs::Tables::inner_read))]
+fn one_operand(exprs: &[Node; 1024], k: Operator, a: usize) -> Node
+    requires { a < 1024 }
+    ensures { (R : Recipe) → ExprAs R (node_at exprs.now a) a (R.expr_at a) → result ≡ one_operand R k a }
+{
+    match exprs[a].form {
+        Form::Leaf => node_of(Form::Flat, k, exprs[a].first, 0),
+        _ => node_of(Form::Deep, k, a as u16, 0),
+    }
+}
+
+// Both operands are named by their places, or neither.
+#[tactic(auto, using(crate::proofs::Tables::leaf_read, crate::proofs::Tables::inner_read))]
+fn two_operands(exprs: &[Node; 1024], k: Operator, a: usize, b: usize) -> Node
+    requires { (a < 1024) × (b < 1024) }
+    ensures { (R : Recipe) → ExprAs R (node_at exprs.now a) a (R.expr_at a) → ExprAs R (node_at exprs.now b) b (R.expr_at b) → result ≡ two_operands R k a b }
+{
+    match (exprs[a].form, exprs[b].form) {
+        (Form::Leaf, Form::Leaf) => node_of(Form::Flat, k, exprs[a].first, exprs[b].first),
+        _ => node_of(Form::Deep, k, a as u16, b as u16),
+    }
+}
+
+// An expression's operands are lower than itself, so that their nodes are there.
+fn expr_node(r: &[u8], exprs: &[Node; 1024], e: usize) -> Node
+    requires { WellFormed r.now × (e < (recipe_of r.now).exprs) × ExprsAs r.now e exprs.now }
+    ensures { result ≡ expr_node (recipe_of r.now) e ((recipe_of r.now).expr_at e) }
+{
+    match tables::expr_at(r, e) {
+        Expr::Constant(_) => node_of(Form::Leaf, Operator::Cell, (CONSTANTS + e) as u16, 0),
+        Expr::Variable(v) => node_of(Form::Leaf, Operator::Cell, v as u16, 0),
+        Expr::Cell(i) => one_operand(exprs, Operator::Cell, i),
+        Expr::Unary(op, a) => one_operand(exprs, unary(op), a),
+        Expr::Binary(op, a, b) => two_operands(exprs, binary(op), a, b),
+        Expr::BadExpr => node_of(Form::Leaf, Operator::Cell, 0, 0),
+    }
+}
+
+fn decode_exprs(r: &[u8], exprs: &mut [Node; 1024])
+    requires { WellFormed r.now }
+    ensures { ExprsAs r.now (recipe_of r.now).exprs exprs.new }
+{
+    let count = tables::half_at(r, 6);
+    for e in 0..count {
+        exprs[e] = expr_node(r, exprs, e);
+    }
+}
+
+// ---- statements
 
 fn record_of(kind: u16, first: u16, second: u16, third: u16) -> Record
     ensures { result ≡ record_of kind first second third }
@@ -27,89 +117,6 @@ fn record_of(kind: u16, first: u16, second: u16, third: u16) -> Record
         third,
     }
 }
-
-// ---- expressions
-
-#[tactic(auto, unfolding(layout::specs::Tables::unary_number))]
-fn unary_number(op: UnaryOp) -> u16
-    ensures { (result ≡ unary_number op) × (result < 16) }
-{
-    match op {
-        UnaryOp::Negate => 2,
-        UnaryOp::Not => 3,
-        UnaryOp::Absolute => 4,
-    }
-}
-
-#[tactic(auto, unfolding(layout::specs::Tables::binary_number))]
-fn binary_number(op: BinaryOp) -> u16
-    ensures { (result ≡ binary_number op) × (result < 16) }
-{
-    match op {
-        BinaryOp::Add => 5,
-        BinaryOp::Sub => 6,
-        BinaryOp::Mul => 7,
-        BinaryOp::Div => 8,
-        BinaryOp::Rem => 9,
-        BinaryOp::Less => 10,
-        BinaryOp::LessEq => 11,
-        BinaryOp::Equal => 12,
-        BinaryOp::NotEqual => 13,
-    }
-}
-
-// An operand that is a leaf is named by its place, which its own record has.
-#[tactic(auto, using(crate::proofs::Tables::leaf_read, crate::proofs::Tables::inner_read))]
-fn one_operand(exprs: &[Record; 1024], k: u16, a: usize) -> Record
-    requires { (k < 16) × (a < 1024) }
-    ensures { (R : Recipe) → ExprAs R (record_at exprs.now a) a (R.expr_at a) → result ≡ one_operand R k a }
-{
-    if exprs[a].kind == 0 {
-        record_of(k, exprs[a].first, 0, 0)
-    } else {
-        record_of(16 + k, a as u16, 0, 0)
-    }
-}
-
-// Both operands are named by their places, or neither.
-#[tactic(auto, using(crate::proofs::Tables::leaf_read, crate::proofs::Tables::inner_read))]
-fn two_operands(exprs: &[Record; 1024], k: u16, a: usize, b: usize) -> Record
-    requires { (k < 16) × (a < 1024) × (b < 1024) }
-    ensures { (R : Recipe) → ExprAs R (record_at exprs.now a) a (R.expr_at a) → ExprAs R (record_at exprs.now b) b (R.expr_at b) → result ≡ two_operands R k a b }
-{
-    if exprs[a].kind == 0 && exprs[b].kind == 0 {
-        record_of(k, exprs[a].first, exprs[b].first, 0)
-    } else {
-        record_of(16 + k, a as u16, b as u16, 0)
-    }
-}
-
-// An expression's operands are lower than itself, so that their records are there.
-fn expr_record(r: &[u8], exprs: &[Record; 1024], e: usize) -> Record
-    requires { WellFormed r.now × (e < (recipe_of r.now).exprs) × ExprsAs r.now e exprs.now }
-    ensures { result ≡ expr_record (recipe_of r.now) e ((recipe_of r.now).expr_at e) }
-{
-    match tables::expr_at(r, e) {
-        Expr::Constant(_) => record_of(0, (CONSTANTS + e) as u16, 0, 0),
-        Expr::Variable(v) => record_of(0, v as u16, 0, 0),
-        Expr::Cell(i) => one_operand(exprs, 1, i),
-        Expr::Unary(op, a) => one_operand(exprs, unary_number(op), a),
-        Expr::Binary(op, a, b) => two_operands(exprs, binary_number(op), a, b),
-        Expr::BadExpr => record_of(0, 0, 0, 0),
-    }
-}
-
-fn decode_exprs(r: &[u8], exprs: &mut [Record; 1024])
-    requires { WellFormed r.now }
-    ensures { ExprsAs r.now (recipe_of r.now).exprs exprs.new }
-{
-    let count = tables::half_at(r, 6);
-    for e in 0..count {
-        exprs[e] = expr_record(r, exprs, e);
-    }
-}
-
-// ---- statements
 
 fn stmt_record(x: Stmt) -> Record
     requires { StmtOk 64 1024 512 x }
