@@ -1,17 +1,15 @@
--- The value of an expression follows from its record in the tables and its operands' answers. Assumes nothing.
-use Prim.Native.Nat.{ℕ, zero, suc, ◌+◌, ◌-◌, ◌<◌, ◌≤◌}
+-- The value of an expression follows from its node in the tables and its operands' answers. Assumes nothing.
+use Prim.Native.Nat.{ℕ, ◌+◌, ◌<◌, ◌≤◌}
 use native.Mathlib.Decide.{dec_lt}
 use native.Mathlib.Omega.{arith}
 use mathlib.Core.Path.{◌≡◌, refl, sym, ap, ◌∙◌}
 use mathlib.Core.Bool.{Bool, true, false, false≢true, ◌&&◌}
-use mathlib.Core.List.{List, [], ◌∷◌}
+use mathlib.Core.List.{List}
 use lib.Dec.{ltb}
 use lib.ListN.{get_or}
 use borrow.Author.Tests.{ltb-true, lt-ltb, le-ltb}
 use Rattle.rules.specs.declared.UnaryOp.{UnaryOp}
-use Rattle.rules.specs.declared.UnaryOp.TheVariants.{Negate, Not, Absolute}
 use Rattle.rules.specs.declared.BinaryOp.{BinaryOp}
-use Rattle.rules.specs.declared.BinaryOp.TheVariants.{Add, Sub, Mul, Div, Rem, Less, LessEq, Equal, NotEqual}
 use Rattle.rules.specs.declared.Expr.{Expr}
 use Rattle.rules.specs.declared.Expr.TheVariants.{Constant, Variable, Cell, Unary, Binary, BadExpr}
 use Rattle.rules.specs.declared.Stop.{Stop}
@@ -27,12 +25,16 @@ use Rattle.rules.specs.Accepted.{ExprOk}
 use Rattle.rules.proofs.Depth.{eval_is}
 use Rattle.rules.proofs.Standing.{proper}
 use Rattle.layout.specs.declared.Tables.{Tables}
-use Rattle.layout.specs.Tables.{expr_record, leaf, place_of, flat, code_of, operand_of, operator_of, left_of, right_of, unary_number, binary_number, unary_from, binary_from}
+use Rattle.layout.specs.declared.Form.{Form}
+use Rattle.layout.specs.declared.Form.TheVariants.{Leaf, Flat, Deep}
+use Rattle.layout.specs.declared.Operator.{Operator}
+use Rattle.layout.specs.declared.Operator.TheVariants as operator
+use Rattle.layout.specs.Tables.{expr_node, leaf, place_of, form_by, form_of, operand_of, operator_of, left_of, right_of, Shape, of_cell, of_unary, of_binary, shape_of, takes_two, has_two, unary_operator, binary_operator}
 use Rattle.layout.specs.Places.{place_in, held_in, ConstantAs, Ready, value_in, Answered}
 use Rattle.layout.specs.Answers.{answer_of, worth_of}
 use Rattle.layout.proofs.Places.{place_held, sound_ready, places_ready}
-use Rattle.layout.proofs.Answers.{unary_range, binary_range, Worthy, Faulty, is_worth, is_fault}
-use Rattle.eval.specs.Packed.{word_in, tag_in, opened_of, unary_in, binary_in, cell_in, cell_place, CellAsked, applied_in, Applies}
+use Rattle.layout.proofs.Answers.{unary_shape, binary_shape, Worthy, Faulty, is_worth, is_fault}
+use Rattle.eval.specs.Packed.{word_in, tag_in, opened_of, unary_in, binary_in, cell_in, cell_place, CellAsked, applied_by, applied_in, Applies}
 
 module _ {r p : List ℕ} {t : Tables} {u : List ℕ} (a : Ready r p t u) where
   abbrev P : Policy
@@ -44,46 +46,26 @@ module _ {r p : List ℕ} {t : Tables} {u : List ℕ} (a : Ready r p t u) where
   abbrev held : Memory
   held = held_in R u
 
-  -- ---- operators by their numbers
+  -- ---- operators on values
 
-  -- the operator of number k on values
-  abbrev op_of : (k : ℕ) → (o v : Valued) → Valued
-  op_of k o v = get_or (o ∷ cell_of P R held o ∷ unary_of Negate o ∷ unary_of Not o ∷ unary_of Absolute o ∷ []) k (binary_of P (binary_from k) o v)
+  abbrev op_by : (s : Shape) → (o v : Valued) → Valued
+  op_by of_cell o v = cell_of P R held o
+  op_by (of_unary op) o v = unary_of op o
+  op_by (of_binary op) o v = binary_of P op o v
 
-  unary_op : (op : UnaryOp) (o v : Valued) → op_of (unary_number op) o v ≡ unary_of op o
-  unfolding unary_number
-  unary_op Negate o v = refl
-  unary_op Not o v = refl
-  unary_op Absolute o v = refl
-
-  binary_op : (op : BinaryOp) (o v : Valued) → op_of (binary_number op) o v ≡ binary_of P op o v
-  unfolding binary_number binary_from
-  binary_op Add o v = refl
-  binary_op Sub o v = refl
-  binary_op Mul o v = refl
-  binary_op Div o v = refl
-  binary_op Rem o v = refl
-  binary_op Less o v = refl
-  binary_op LessEq o v = refl
-  binary_op Equal o v = refl
-  binary_op NotEqual o v = refl
+  abbrev op_of : (k : Operator) → (o v : Valued) → Valued
+  op_of k o v = op_by (shape_of k) o v
 
   -- a fault of an operand is the fault of the whole
-  left_lost : (k : ℕ) → 1 ≤ k → (h : Stop) (v : Valued) → op_of k (Err h) v ≡ Err h
-  left_lost zero l h v = absurd (omega arith)
-  left_lost (suc zero) l h v = refl
-  left_lost (suc (suc zero)) l h v = refl
-  left_lost (suc (suc (suc zero))) l h v = refl
-  left_lost (suc (suc (suc (suc zero)))) l h v = refl
-  left_lost (suc (suc (suc (suc (suc k))))) l h v = refl
+  left_lost : (s : Shape) (h : Stop) (v : Valued) → op_by s (Err h) v ≡ Err h
+  left_lost of_cell h v = refl
+  left_lost (of_unary op) h v = refl
+  left_lost (of_binary op) h v = refl
 
-  right_lost : (k : ℕ) → 5 ≤ k → (q : Place) (h : Stop) → op_of k (Ok q) (Err h) ≡ Err h
-  right_lost zero l q h = absurd (omega arith)
-  right_lost (suc zero) l q h = absurd (omega arith)
-  right_lost (suc (suc zero)) l q h = absurd (omega arith)
-  right_lost (suc (suc (suc zero))) l q h = absurd (omega arith)
-  right_lost (suc (suc (suc (suc zero)))) l q h = absurd (omega arith)
-  right_lost (suc (suc (suc (suc (suc k))))) l q h = refl
+  right_lost : (s : Shape) → takes_two s ≡ true → (q : Place) (h : Stop) → op_by s (Ok q) (Err h) ≡ Err h
+  right_lost of_cell l q h = absurd (false≢true l)
+  right_lost (of_unary op) l q h = absurd (false≢true l)
+  right_lost (of_binary op) l q h = refl
 
   -- ---- leaves
 
@@ -125,118 +107,76 @@ module _ {r p : List ℕ} {t : Tables} {u : List ℕ} (a : Ready r p t u) where
     leaf_at : leaf (R.expr_at e) ≡ true → LeafAt e (place_of e (R.expr_at e))
     leaf_at = leaf_of e (R.expr_at e) there ok_at (a.constants e there) value_at
 
-  -- ---- a record: code k, left l and right m, for an expression of value o
+  -- ---- a node: form f, operator k, left l and right m, for expression e
 
-  record Flat (k l m : ℕ) (o : Valued) : Type 0 where
-    few : k < 14
+  record FlatAt (e : ℕ) (k : Operator) (l m : ℕ) : Type 0 where
     left_there : l < 2112
     right_there : m < 2112
     left_good : tag_in (get_or u l 0) < byte p 6
-    right_good : 5 ≤ k → tag_in (get_or u m 0) < byte p 6
-    is : o ≡ op_of k (Ok (place_in u l)) (Ok (place_in u m))
+    right_good : has_two k ≡ true → tag_in (get_or u m 0) < byte p 6
+    is : value_in r p u e ≡ op_of k (Ok (place_in u l)) (Ok (place_in u m))
 
-  record Deep (e k l m : ℕ) (o : Valued) : Type 0 where
-    some : 17 ≤ k
-    few : k < 30
+  record DeepAt (e : ℕ) (k : Operator) (l m : ℕ) : Type 0 where
     lower : l < e
-    right_lower : 21 ≤ k → m < e
-    is : o ≡ op_of (k - 16) (value_in r p u l) (value_in r p u m)
+    right_lower : has_two k ≡ true → m < e
+    is : value_in r p u e ≡ op_of k (value_in r p u l) (value_in r p u m)
 
-  data Kind (e k l m : ℕ) (o : Valued) : Type 0 where
-    flat_kind : Flat k l m o → Kind e k l m o
-    deep_kind : Deep e k l m o → Kind e k l m o
+  abbrev NodeAt : (e : ℕ) (f : Form) (k : Operator) (l m : ℕ) → Type 0
+  NodeAt e Leaf k l m = LeafAt e l
+  NodeAt e Flat k l m = FlatAt e k l m
+  NodeAt e Deep k l m = DeepAt e k l m
 
-  module _ {e k l m : ℕ} (there : e < R.exprs) where
-    none : {d : ℕ} → LeafAt e d → k ≡ 0 → l ≡ d → m ≡ 0 → Kind e k l m (value_in r p u e)
-    none x k l m =
-        rw (k, l, m) (flat_kind (record {
-          few = omega arith;
-          left_there = x.there;
-          right_there = omega arith;
-          left_good = x.good;
-          right_good = λ z. absurd (omega arith);
-          is = x.is;
-        }))
-
-    one : (n i : ℕ) {o : Valued} → i < e → 1 ≤ n → n < 5 → (b : Bool) → leaf (R.expr_at i) ≡ b → k ≡ code_of b n → l ≡ operand_of R b i → m ≡ 0
-        → ((v : Valued) → o ≡ op_of n (value_in r p u i) v) → Kind e k l m o
-    one n i h f g true q k l m v =
+  module _ {e : ℕ} {f : Form} {k : Operator} {l m : ℕ} (there : e < R.exprs) where
+    one : (n : Operator) (i : ℕ) → i < e → has_two n ≡ false → (b : Bool) → leaf (R.expr_at i) ≡ b → f ≡ form_by b → k ≡ n → l ≡ operand_of R b i → m ≡ 0
+        → ((v : Valued) → value_in r p u e ≡ op_of n (value_in r p u i) v) → NodeAt e f k l m
+    one n i h g true q f k l m v =
         let x = leaf_at i (omega arith) q in
-        rw (k, l, m) (flat_kind (record {
-          few = omega arith;
+        rw (f, k, l, m) (record {
           left_there = x.there;
           right_there = omega arith;
           left_good = x.good;
-          right_good = λ z. absurd (omega arith);
+          right_good = λ z. absurd (false≢true (sym g ∙ z));
           is = rw x.is at (v (Ok (place_in u 0)));
-        }))
-    one n i h f g false q k l m v =
-        let back : 16 + n - 16 ≡ n = omega arith in
-        rw (k, l, m) (deep_kind (record {
-          some = omega arith;
-          few = omega arith;
-          lower = h;
-          right_lower = λ z. absurd (omega arith);
-          is = rw back (v (value_in r p u 0));
-        }))
+        })
+    one n i h g false q f k l m v =
+        rw (f, k, l, m) (record { lower = h; right_lower = λ z. absurd (false≢true (sym g ∙ z)); is = v (value_in r p u 0) })
 
-    apart : (n i j : ℕ) {o : Valued} → i < e → j < e → 5 ≤ n → n < 14 → k ≡ 16 + n → l ≡ i → m ≡ j
-        → o ≡ op_of n (value_in r p u i) (value_in r p u j) → Kind e k l m o
-    apart n i j h d f g k l m v =
-        let back : 16 + n - 16 ≡ n = omega arith in
-        rw (k, l, m) (deep_kind (record {
-          some = omega arith;
-          few = omega arith;
-          lower = h;
-          right_lower = λ z. d;
-          is = rw back v;
-        }))
+    apart : (n : Operator) (i j : ℕ) → i < e → j < e → f ≡ Deep → k ≡ n → l ≡ i → m ≡ j
+        → value_in r p u e ≡ op_of n (value_in r p u i) (value_in r p u j) → NodeAt e f k l m
+    apart n i j h d f k l m v = rw (f, k, l, m) (record { lower = h; right_lower = λ z. d; is = v })
 
-    two : (n i j : ℕ) {o : Valued} → i < e → j < e → 5 ≤ n → n < 14 → (b c : Bool) → leaf (R.expr_at i) ≡ b → leaf (R.expr_at j) ≡ c
-        → k ≡ code_of (b && c) n → l ≡ operand_of R (b && c) i → m ≡ operand_of R (b && c) j
-        → o ≡ op_of n (value_in r p u i) (value_in r p u j) → Kind e k l m o
-    two n i j h d f g true true q s k l m v =
+    two : (n : Operator) (i j : ℕ) → i < e → j < e → (b c : Bool) → leaf (R.expr_at i) ≡ b → leaf (R.expr_at j) ≡ c
+        → f ≡ form_by (b && c) → k ≡ n → l ≡ operand_of R (b && c) i → m ≡ operand_of R (b && c) j
+        → value_in r p u e ≡ op_of n (value_in r p u i) (value_in r p u j) → NodeAt e f k l m
+    two n i j h d true true q s f k l m v =
         let x = leaf_at i (omega arith) q in
         let y = leaf_at j (omega arith) s in
-        rw (k, l, m) (flat_kind (record {
-          few = omega arith;
+        rw (f, k, l, m) (record {
           left_there = x.there;
           right_there = y.there;
           left_good = x.good;
           right_good = λ z. y.good;
           is = rw (x.is, y.is) at v;
-        }))
-    two n i j h d f g true false q s k l m v = apart n i j h d f g k l m v
-    two n i j h d f g false c q s k l m v = apart n i j h d f g k l m v
+        })
+    two n i j h d true false q s f k l m v = apart n i j h d f k l m v
+    two n i j h d false c q s f k l m v = apart n i j h d f k l m v
 
-  kind_of_lem : (e : ℕ) (x : Expr) {k l m : ℕ} → e < R.exprs → ExprOk R.vars e x → ConstantAs u e x
-      → k ≡ code_of (flat R x) (operator_of x) → l ≡ left_of R e x → m ≡ right_of R x
-      → value_in r p u e ≡ value_by P R held (λ i. value_in r p u i) x → Kind e k l m (value_in r p u e)
-  kind_of_lem e (Constant w) there ok c k l m v = none there (leaf_of e (Constant w) there ok c v refl) k l m
-  kind_of_lem e (Variable x) there ok c k l m v = none there (leaf_of e (Variable x) there ok c v refl) k l m
-  kind_of_lem e (Cell i) there ok c k l m v = one there 1 i ok (omega arith) (omega arith) (leaf (R.expr_at i)) refl k l m (λ w. v)
-  kind_of_lem e (Unary op i) there ok c k l m v =
-      let range = unary_range op in
-      one there (unary_number op) i ok (omega (arith, range)) range.1 (leaf (R.expr_at i)) refl k l m (λ w. v ∙ sym (unary_op op (value_in r p u i) w))
-  kind_of_lem e (Binary op i j) there ok c k l m v =
-      let range = binary_range op in
-      two there (binary_number op) i j ok.0 ok.1 range.0 range.1 (leaf (R.expr_at i)) (leaf (R.expr_at j)) refl refl k l m
-      (v ∙ sym (binary_op op (value_in r p u i) (value_in r p u j)))
-  kind_of_lem e BadExpr there ok c k l m v = absurd ok
+  node_of_lem : (e : ℕ) (x : Expr) {f : Form} {k : Operator} {l m : ℕ} → e < R.exprs → ExprOk R.vars e x → ConstantAs u e x
+      → f ≡ form_of R x → k ≡ operator_of x → l ≡ left_of R e x → m ≡ right_of R x
+      → value_in r p u e ≡ value_by P R held (λ i. value_in r p u i) x → NodeAt e f k l m
+  node_of_lem e (Constant w) there ok c f k l m v = rw (f, l) (leaf_of e (Constant w) there ok c v refl)
+  node_of_lem e (Variable x) there ok c f k l m v = rw (f, l) (leaf_of e (Variable x) there ok c v refl)
+  node_of_lem e (Cell i) there ok c f k l m v = one there operator.Cell i ok refl (leaf (R.expr_at i)) refl f k l m (λ w. v)
+  node_of_lem e (Unary op i) there ok c f k l m v =
+      one there (unary_operator op) i ok (ap takes_two (unary_shape op)) (leaf (R.expr_at i)) refl f k l m (λ w. rw (unary_shape op) v)
+  node_of_lem e (Binary op i j) there ok c f k l m v =
+      two there (binary_operator op) i j ok.0 ok.1 (leaf (R.expr_at i)) (leaf (R.expr_at j)) refl refl f k l m (rw (binary_shape op) v)
+  node_of_lem e BadExpr there ok c f k l m v = absurd ok
 
-  kind : (e : ℕ) → e < R.exprs → Kind e (expr_record t e).kind (expr_record t e).first (expr_record t e).second (value_in r p u e)
-  kind e there =
+  node : (e : ℕ) → e < R.exprs → NodeAt e (expr_node t e).form (expr_node t e).operator (expr_node t e).first (expr_node t e).second
+  node e there =
       let x = a.decoded.exprs_as e there in
-      kind_of_lem e (R.expr_at e) there (ok_at e there) (a.constants e there) x.code x.left x.right (value_at e there)
-
-  module _ {e k l m : ℕ} {o : Valued} where
-    is_flat : Kind e k l m o → k < 16 → Flat k l m o
-    is_flat (flat_kind x) h = x
-    is_flat (deep_kind x) h = absurd (omega (arith, x.some))
-
-    is_deep : Kind e k l m o → 16 ≤ k → Deep e k l m o
-    is_deep (flat_kind x) h = absurd (omega (arith, x.few))
-    is_deep (deep_kind x) h = x
+      node_of_lem e (R.expr_at e) there (ok_at e there) (a.constants e there) x.form x.operator x.left x.right (value_at e there)
 
   -- ---- answers
 
@@ -297,135 +237,130 @@ module _ {r p : List ℕ} {t : Tables} {u : List ℕ} (a : Ready r p t u) where
       let l : i < count R = omega (arith, ltb-true (word_in x) R.cells q) in
       rw (place_held R u i l, d.joins_as _ _ (a.tags_below i l) v.good)))
 
-  on_unary : (k : ℕ) {x : ℕ} {o : Valued} → Worthy P x o → unary_in k x ≡ answer_of (unary_of (unary_from k) o)
+  on_unary : (op : UnaryOp) {x : ℕ} {o : Valued} → Worthy P x o → unary_in op x ≡ answer_of (unary_of op o)
   unfolding value_of tag_of
-  on_unary k v = rw v.is
+  on_unary op v = rw v.is
 
-  on_binary : (k : ℕ) {x y : ℕ} {o v : Valued} → Worthy P x o → Worthy P y v → binary_in t k x y ≡ answer_of (binary_of P (binary_from k) o v)
+  on_binary : (op : BinaryOp) {x y : ℕ} {o v : Valued} → Worthy P x o → Worthy P y v → binary_in t op x y ≡ answer_of (binary_of P op o v)
   unfolding value_of tag_of
-  on_binary k v w = rw (v.is, w.is, a.decoded.joins_as _ _ v.good w.good)
+  on_binary op v w = rw (v.is, w.is, a.decoded.joins_as _ _ v.good w.good)
 
   whole : {x : ℕ} {o : Valued} → Worthy P x o → x ≡ answer_of o
   unfolding value_of tag_of
   whole v = rw v.is (omega arith)
 
-  on_op : (k : ℕ) {x y : ℕ} {o v : Valued} → Worthy P x o → (5 ≤ k → Worthy P y v) → applied_in t u k x y ≡ answer_of (op_of k o v)
-  unfolding applied_in unary_from
-  on_op zero x y = whole x
-  on_op (suc zero) x y = on_cell x
-  on_op (suc (suc zero)) x y = on_unary 2 x
-  on_op (suc (suc (suc zero))) x y = on_unary 3 x
-  on_op (suc (suc (suc (suc zero)))) x y = on_unary 4 x
-  on_op (suc (suc (suc (suc (suc k))))) x y = on_binary (suc (suc (suc (suc (suc k))))) x (y (omega arith))
+  on_op : (s : Shape) {x y : ℕ} {o v : Valued} → Worthy P x o → (takes_two s ≡ true → Worthy P y v) → applied_by t u s x y ≡ answer_of (op_by s o v)
+  on_op of_cell x y = on_cell x
+  on_op (of_unary op) x y = on_unary op x
+  on_op (of_binary op) x y = on_binary op x (y refl)
 
-  asks : {k x y : ℕ} {o v : Valued} → 0 < k → k < 14 → Worthy P x o → (5 ≤ k → Worthy P y v) → Applies t u k x y
-  asks some few x y = record { some = some; few = few; cell = λ q. cell_asked x; tags = λ h. (few_tag x.good, few_tag (y h).good) }
+  asks : {k : Operator} {x y : ℕ} {o v : Valued} → Worthy P x o → (has_two k ≡ true → Worthy P y v) → Applies t u k x y
+  asks x y = record { cell = λ q. cell_asked x; tags = λ h. (few_tag x.good, few_tag (y h).good) }
 
   -- ---- expression e
 
   module _ (e : ℕ) (there : e < R.exprs) where
-    abbrev code : ℕ
-    code = (expr_record t e).kind
+    abbrev form : Form
+    form = (expr_node t e).form
+
+    abbrev code : Operator
+    code = (expr_node t e).operator
 
     abbrev left : ℕ
-    left = (expr_record t e).first
+    left = (expr_node t e).first
 
     abbrev right : ℕ
-    right = (expr_record t e).second
+    right = (expr_node t e).second
 
-    module _ (h : code < 16) where
-      abbrev shape : Flat code left right (value_in r p u e)
-      shape = is_flat (kind e there) h
+    module _ (h : form ≡ Leaf) where
+      abbrev at_leaf : LeafAt e left
+      at_leaf = rw h at (node e there)
 
-      pub left_place : left < 2112
-      left_place = shape.left_there
-
-      pub right_place : right < 2112
-      right_place = shape.right_there
-
-      left_good_at : tag_in (get_or u left 0) < byte p 6
-      left_good_at = shape.left_good
-
-      left_worth : Worthy P (get_or u left 0) (Ok (place_in u left))
-      left_worth = place_worth left shape.left_good
-
-      right_worth : 5 ≤ code → Worthy P (get_or u right 0) (Ok (place_in u right))
-      right_worth b = place_worth right (shape.right_good b)
-
-      pub flat_asks : 0 < code → Applies t u code (get_or u left 0) (get_or u right 0)
-      flat_asks some = asks some shape.few left_worth right_worth
-
-      pub flat_value : {z : ℕ} → z ≡ applied_in t u code (get_or u left 0) (get_or u right 0) → z ≡ answer_of (value_in r p u e)
-      flat_value q = rw shape.is (q ∙ on_op code left_worth right_worth)
-
-    module _ (h : code ≡ 0) where
       pub leaf_place : left < 2112
-      leaf_place = left_place (omega (arith, h))
+      leaf_place = at_leaf.there
 
       pub leaf_value : get_or u left 0 ≡ answer_of (value_in r p u e)
-      unfolding applied_in
-      leaf_value = flat_value (omega (arith, h)) (rw h refl)
+      leaf_value = rw at_leaf.is (whole (place_worth left at_leaf.good))
 
       -- a leaf is no fault
       pub leaf_worth : {x : ℕ} → x ≡ answer_of (value_in r p u e) → Worthy P x (value_in r p u e)
-      leaf_worth f = worthy e f (omega (arith, f ∙ sym leaf_value, left_good_at (omega (arith, h)), a.policy.few_tags))
+      leaf_worth f = worthy e f (omega (arith, f ∙ sym leaf_value, at_leaf.good, a.policy.few_tags))
 
       pub leaf_given : {x : ℕ} → x ≡ answer_of (value_in r p u e) → tag_in x < 256
       leaf_given f = omega (arith, (leaf_worth f).good, a.policy.few_tags)
 
-    module _ (h : 16 ≤ code) where
-      abbrev form : Deep e code left right (value_in r p u e)
-      form = is_deep (kind e there) h
+    module _ (h : form ≡ Flat) where
+      abbrev at_flat : FlatAt e code left right
+      at_flat = rw h at (node e there)
 
-      pub code_few : code < 30
-      code_few = form.few
+      pub left_place : left < 2112
+      left_place = at_flat.left_there
+
+      pub right_place : right < 2112
+      right_place = at_flat.right_there
+
+      left_worth : Worthy P (get_or u left 0) (Ok (place_in u left))
+      left_worth = place_worth left at_flat.left_good
+
+      right_worth : has_two code ≡ true → Worthy P (get_or u right 0) (Ok (place_in u right))
+      right_worth b = place_worth right (at_flat.right_good b)
+
+      pub flat_asks : Applies t u code (get_or u left 0) (get_or u right 0)
+      flat_asks = asks left_worth right_worth
+
+      pub flat_value : {z : ℕ} → z ≡ applied_in t u code (get_or u left 0) (get_or u right 0) → z ≡ answer_of (value_in r p u e)
+      flat_value q = rw at_flat.is (q ∙ on_op (shape_of code) left_worth right_worth)
+
+    module _ (h : form ≡ Deep) where
+      abbrev at_deep : DeepAt e code left right
+      at_deep = rw h at (node e there)
 
       pub left_lower : left < e
-      left_lower = form.lower
+      left_lower = at_deep.lower
 
       pub left_there : left < R.exprs
       left_there = omega (arith, left_lower, there)
 
-      pub right_lower : 5 ≤ code - 16 → right < e
-      right_lower b = form.right_lower (omega arith)
+      pub right_lower : has_two code ≡ true → right < e
+      right_lower b = at_deep.right_lower b
 
-      pub right_there : 5 ≤ code - 16 → right < R.exprs
+      pub right_there : has_two code ≡ true → right < R.exprs
       right_there b = omega (arith, right_lower b, there)
 
       module _ {x : ℕ} (f : x ≡ answer_of (value_in r p u left)) where
         pub left_fault : 9223372036854775808 ≤ x → x ≡ answer_of (value_in r p u e)
         left_fault b =
             let w = faulty _ f b in
-            let q = left_lost (code - 16) (omega (arith, form.some)) w.stop (value_in r p u right) in
-            rw (form.is, w.is, q) (rw w.is at f)
+            let q = left_lost (shape_of code) w.stop (value_in r p u right) in
+            rw (at_deep.is, w.is, q) (rw w.is at f)
 
         module _ (s : x < 9223372036854775808) where
           first : Worthy P x (value_in r p u left)
           first = worthy _ f s
 
-          module _ (b : code - 16 < 5) (y : ℕ) where
-            no_second : 5 ≤ code - 16 → Worthy P y (value_in r p u right)
-            no_second c = absurd (omega arith)
+          module _ (b : has_two code ≡ false) (y : ℕ) where
+            no_second : has_two code ≡ true → Worthy P y (value_in r p u right)
+            no_second c = absurd (false≢true (sym b ∙ c))
 
-            pub one_asks : Applies t u (code - 16) x y
-            one_asks = asks (omega (arith, form.some)) (omega (arith, code_few)) first no_second
+            pub one_asks : Applies t u code x y
+            one_asks = asks first no_second
 
-            pub one_value : {z : ℕ} → z ≡ applied_in t u (code - 16) x y → z ≡ answer_of (value_in r p u e)
-            one_value q = rw form.is (q ∙ on_op (code - 16) first no_second)
+            pub one_value : {z : ℕ} → z ≡ applied_in t u code x y → z ≡ answer_of (value_in r p u e)
+            one_value q = rw at_deep.is (q ∙ on_op (shape_of code) first no_second)
 
-          module _ (b : 5 ≤ code - 16) {y : ℕ} (g : y ≡ answer_of (value_in r p u right)) where
+          module _ (b : has_two code ≡ true) {y : ℕ} (g : y ≡ answer_of (value_in r p u right)) where
             pub right_fault : 9223372036854775808 ≤ y → y ≡ answer_of (value_in r p u e)
             right_fault c =
                 let w = faulty _ g c in
-                let q = right_lost (code - 16) b (worth_of x) w.stop in
-                rw (form.is, first.is, w.is, q) (rw w.is at g)
+                let q = right_lost (shape_of code) b (worth_of x) w.stop in
+                rw (at_deep.is, first.is, w.is, q) (rw w.is at g)
 
             module _ (c : y < 9223372036854775808) where
               second : Worthy P y (value_in r p u right)
               second = worthy _ g c
 
-              pub two_asks : Applies t u (code - 16) x y
-              two_asks = asks (omega (arith, form.some)) (omega (arith, code_few)) first (λ z. second)
+              pub two_asks : Applies t u code x y
+              two_asks = asks first (λ z. second)
 
-              pub two_value : {z : ℕ} → z ≡ applied_in t u (code - 16) x y → z ≡ answer_of (value_in r p u e)
-              two_value q = rw form.is (q ∙ on_op (code - 16) first (λ z. second))
+              pub two_value : {z : ℕ} → z ≡ applied_in t u code x y → z ≡ answer_of (value_in r p u e)
+              two_value q = rw at_deep.is (q ∙ on_op (shape_of code) first (λ z. second))

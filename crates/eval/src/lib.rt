@@ -3,19 +3,17 @@
 #![tactic(auto)]
 
 ghost use Rattle.std.specs.Prelude.{◌≡◌, ◌+◌, ◌-◌, ◌*◌, ◌/◌, ◌%◌, ◌<◌, ◌≤◌, get_or};
-ghost use Rattle.layout.specs.Tables.{expr_record, join_in};
+ghost use Rattle.layout.specs.Tables.{expr_node, has_two, join_in};
+ghost use Rattle.layout.specs.declared.Form.TheVariants.{Leaf, Flat, Deep};
 ghost use Rattle.layout.specs.Places.{ExprGiven, Answered, Evaluated};
 ghost use Rattle.layout.specs.Answers.{worth_of, stop_from};
 ghost use Rattle.eval.specs.Packed.{tag_in, opened_of, cell_in, applied_in, CellAsked, Applies};
 
-use layout::Tables;
+use layout::{Form, Operator, Tables};
 use rules::{Place, Stop};
 
 // From here on an answer is a fault, whose number is counted from here.
 pub const FAULT: u64 = 9223372036854775808;
-
-// From here on an operator has two operands.
-const BINARY: u16 = 5;
 
 // ---- answers
 
@@ -117,37 +115,47 @@ fn cell(t: &Tables, u: &[u64; 2112], x: u64) -> u64
     both(t, word_of(u[i]), u[i], x)
 }
 
-// The operator of number k on x and, if it has two operands, y. One table, so that one jump finds it.
-fn apply(t: &Tables, u: &[u64; 2112], k: u16, x: u64, y: u64) -> u64
+fn has_two(k: Operator) -> bool
+    ensures { result ≡ has_two k }
+{
+    match k {
+        Operator::Cell | Operator::Negate | Operator::Not | Operator::Absolute => false,
+        _ => true,
+    }
+}
+
+// The operator k on x and, if it has two operands, y. One table, so that one jump finds it.
+#[tactic(auto, unfolding(rules::specs::Steps::given, rules::specs::Memory::value_of, rules::specs::Memory::tag_of, rules::specs::Operators::unary, rules::specs::Operators::binary, rules::specs::Operators::divides, rules::specs::Ends::stop_number))]
+fn apply(t: &Tables, u: &[u64; 2112], k: Operator, x: u64, y: u64) -> u64
     requires { Applies t.now u.now k x y }
     ensures { result ≡ applied_in t.now u.now k x y }
 {
     let a = word_of(x);
     let b = word_of(y);
     match k {
-        1 => cell(t, u, x),
-        2 => one(words::neg(a), x),
-        3 => one(words::not(a), x),
-        4 => one(words::abs(a), x),
-        5 => both(t, words::add(a, b), x, y),
-        6 => both(t, words::sub(a, b), x, y),
-        7 => both(t, words::mul(a, b), x, y),
-        8 => {
+        Operator::Cell => cell(t, u, x),
+        Operator::Negate => one(words::neg(a), x),
+        Operator::Not => one(words::not(a), x),
+        Operator::Absolute => one(words::abs(a), x),
+        Operator::Add => both(t, words::add(a, b), x, y),
+        Operator::Sub => both(t, words::sub(a, b), x, y),
+        Operator::Mul => both(t, words::mul(a, b), x, y),
+        Operator::Div => {
             if b == 0 {
                 return FAULT + 6;
             }
             both(t, words::div(a, b), x, y)
         }
-        9 => {
+        Operator::Rem => {
             if b == 0 {
                 return FAULT + 6;
             }
             both(t, words::rem(a, b), x, y)
         }
-        10 => both(t, words::is_less(a, b), x, y),
-        11 => both(t, words::is_less_equal(a, b), x, y),
-        12 => both(t, words::is_equal(a, b), x, y),
-        _ => both(t, words::is_not_equal(a, b), x, y),
+        Operator::Less => both(t, words::is_less(a, b), x, y),
+        Operator::LessEq => both(t, words::is_less_equal(a, b), x, y),
+        Operator::Equal => both(t, words::is_equal(a, b), x, y),
+        Operator::NotEqual => both(t, words::is_not_equal(a, b), x, y),
     }
 }
 
@@ -155,7 +163,7 @@ fn apply(t: &Tables, u: &[u64; 2112], k: u16, x: u64, y: u64) -> u64
 
 // A constant or a variable.
 fn leaf(t: &Tables, u: &[u64; 2112], e: usize) -> u64
-    requires { ExprGiven t.now u.now e × ((expr_record t.now e).kind ≡ 0) }
+    requires { ExprGiven t.now u.now e × ((expr_node t.now e).form ≡ Leaf) }
     ensures { Answered t.now u.now e result }
 {
     u[t.exprs[e].first as usize]
@@ -163,12 +171,12 @@ fn leaf(t: &Tables, u: &[u64; 2112], e: usize) -> u64
 
 // The operands are leaves, named by their places. What has no second operand names place 0 there.
 fn flat(t: &Tables, u: &[u64; 2112], e: usize) -> u64
-    requires { ExprGiven t.now u.now e × (0 < (expr_record t.now e).kind) × ((expr_record t.now e).kind < 16) }
+    requires { ExprGiven t.now u.now e × ((expr_node t.now e).form ≡ Flat) }
     ensures { Answered t.now u.now e result }
 {
     let a = t.exprs[e].first as usize;
     let b = t.exprs[e].second as usize;
-    apply(t, u, t.exprs[e].kind, u[a], u[b])
+    apply(t, u, t.exprs[e].operator, u[a], u[b])
 }
 
 #[cycle(deep_operand)]
@@ -176,27 +184,25 @@ fn operand(t: &Tables, u: &[u64; 2112], e: usize) -> u64
     requires { ExprGiven t.now u.now e }
     ensures { Answered t.now u.now e result }
 {
-    if t.exprs[e].kind == 0 {
-        return leaf(t, u, e);
+    match t.exprs[e].form {
+        Form::Leaf => leaf(t, u, e),
+        Form::Flat => flat(t, u, e),
+        Form::Deep => deep(t, u, e),
     }
-    if t.exprs[e].kind < 16 {
-        return flat(t, u, e);
-    }
-    deep(t, u, e)
 }
 
 // Operands have lower numbers than their user, so the expression's own number falls.
 #[cycle(deep_operand)]
 fn deep(t: &Tables, u: &[u64; 2112], e: usize) -> u64
-    requires { ExprGiven t.now u.now e × (16 ≤ (expr_record t.now e).kind) }
+    requires { ExprGiven t.now u.now e × ((expr_node t.now e).form ≡ Deep) }
     ensures { Answered t.now u.now e result }
 {
-    let k = t.exprs[e].kind - 16;
+    let k = t.exprs[e].operator;
     let x = operand(t, u, t.exprs[e].first as usize);
     if FAULT <= x {
         return x;
     }
-    if k < BINARY {
+    if !has_two(k) {
         return apply(t, u, k, x, x);
     }
     let y = operand(t, u, t.exprs[e].second as usize);
@@ -211,12 +217,9 @@ pub fn value(t: &Tables, u: &[u64; 2112], e: usize) -> Result<Place, Stop>
     requires { ExprGiven t.now u.now e }
     ensures { Evaluated t.now u.now e result }
 {
-    if t.exprs[e].kind == 0 {
-        return Ok(place_of(leaf(t, u, e)));
+    match t.exprs[e].form {
+        Form::Leaf => Ok(place_of(leaf(t, u, e))),
+        Form::Flat => opened(flat(t, u, e)),
+        Form::Deep => opened(deep(t, u, e)),
     }
-    opened(if t.exprs[e].kind < 16 {
-        flat(t, u, e)
-    } else {
-        deep(t, u, e)
-    })
 }

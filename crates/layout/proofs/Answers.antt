@@ -2,6 +2,10 @@
 use Prim.Native.Nat.{ℕ, ◌+◌, ◌-◌, ◌*◌, ◌/◌, ◌%◌, ◌^◌, ◌<◌, ◌≤◌}
 use native.Mathlib.Omega.{arith}
 use mathlib.Core.Path.{◌≡◌, refl, sym, ap}
+use Rattle.rules.specs.declared.UnaryOp.{UnaryOp}
+use Rattle.rules.specs.declared.UnaryOp.TheVariants.{Negate, Not, Absolute}
+use Rattle.rules.specs.declared.BinaryOp.{BinaryOp}
+use Rattle.rules.specs.declared.BinaryOp.TheVariants.{Add, Sub, Mul, Div, Rem, Less, LessEq, Equal, NotEqual}
 use Rattle.rules.specs.declared.Stop.{Stop}
 use Rattle.rules.specs.declared.Stop.TheVariants.{AssignTag, StoreTag, EmitTag, Index, Divisor, Room, Frames}
 use Rattle.rules.specs.declared.Place.{Place}
@@ -11,9 +15,26 @@ use Rattle.rules.specs.Policy.{Policy}
 use Rattle.rules.specs.Memory.{value_of, tag_of}
 use Rattle.rules.specs.Ends.{stop_number}
 use Rattle.rules.proofs.Standing.{Proper, fault, value}
+use Rattle.layout.specs.Tables.{of_unary, of_binary, shape_of, unary_operator, binary_operator}
 use Rattle.layout.specs.Answers.{answer_of, worth_of, stop_from}
 
--- ---- numbers
+-- ---- numbers and operators
+
+pub unary_shape : (op : UnaryOp) → shape_of (unary_operator op) ≡ of_unary op
+unary_shape Negate = refl
+unary_shape Not = refl
+unary_shape Absolute = refl
+
+pub binary_shape : (op : BinaryOp) → shape_of (binary_operator op) ≡ of_binary op
+binary_shape Add = refl
+binary_shape Sub = refl
+binary_shape Mul = refl
+binary_shape Div = refl
+binary_shape Rem = refl
+binary_shape Less = refl
+binary_shape LessEq = refl
+binary_shape Equal = refl
+binary_shape NotEqual = refl
 
 pub stop_back : (h : Stop) → stop_from (stop_number h) ≡ h
 unfolding stop_from stop_number

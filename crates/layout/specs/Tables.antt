@@ -53,21 +53,34 @@ binary_operator LessEq = operator.LessEq
 binary_operator Equal = operator.Equal
 binary_operator NotEqual = operator.NotEqual
 
--- the operator has two operands
+-- an operator reads a cell, or is one of the language's
+pub data Shape : Type 0 where
+  of_cell : Shape
+  of_unary : UnaryOp → Shape
+  of_binary : BinaryOp → Shape
+
+abbrev pub shape_of : Operator → Shape
+shape_of operator.Cell = of_cell
+shape_of operator.Negate = of_unary Negate
+shape_of operator.Not = of_unary Not
+shape_of operator.Absolute = of_unary Absolute
+shape_of operator.Add = of_binary Add
+shape_of operator.Sub = of_binary Sub
+shape_of operator.Mul = of_binary Mul
+shape_of operator.Div = of_binary Div
+shape_of operator.Rem = of_binary Rem
+shape_of operator.Less = of_binary Less
+shape_of operator.LessEq = of_binary LessEq
+shape_of operator.Equal = of_binary Equal
+shape_of operator.NotEqual = of_binary NotEqual
+
+abbrev pub takes_two : Shape → Bool
+takes_two of_cell = false
+takes_two (of_unary op) = false
+takes_two (of_binary op) = true
+
 abbrev pub has_two : Operator → Bool
-has_two operator.Cell = false
-has_two operator.Negate = false
-has_two operator.Not = false
-has_two operator.Absolute = false
-has_two operator.Add = true
-has_two operator.Sub = true
-has_two operator.Mul = true
-has_two operator.Div = true
-has_two operator.Rem = true
-has_two operator.Less = true
-has_two operator.LessEq = true
-has_two operator.Equal = true
-has_two operator.NotEqual = true
+has_two k = takes_two (shape_of k)
 
 -- a leaf has none, and keeps Cell
 abbrev pub operator_of : Expr → Operator

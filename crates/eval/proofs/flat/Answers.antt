@@ -9,7 +9,7 @@ bounds-u-a c =
     let args = c.args in
     let g = pre.0 in
     let e = args.e in
-    let h = pre.2 in
+    let h = pre.1 in
     omega (arith, left_place g.ready e g.there h)
 
 pub bounds-u-b : goal.bounds-u-b
@@ -18,7 +18,7 @@ bounds-u-b c =
     let args = c.args in
     let g = pre.0 in
     let e = args.e in
-    let h = pre.2 in
+    let h = pre.1 in
     omega (arith, right_place g.ready e g.there h)
 
 pub apply-requires : goal.apply-requires
@@ -27,12 +27,12 @@ apply-requires c =
     let args = c.args in
     let g = pre.0 in
     let e = args.e in
-    let h = pre.2 in
-    flat_asks g.ready e g.there h pre.1
+    let h = pre.1 in
+    flat_asks g.ready e g.there h
 
 pub returns : goal.returns
 returns c =
     let args = c.args in
     let pre = c.requires in
     let apply = c.apply in
-    λ r p a there. flat_value a args.e there pre.2 apply.ensures
+    λ r p a there. flat_value a args.e there pre.1 apply.ensures
