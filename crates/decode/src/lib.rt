@@ -1,4 +1,4 @@
-// Filling the arrays that the run reads, once, from accepted tables; and the memory's bytes from them at the end.
+// Filling the tables and the places that the run reads, once, from accepted bytes; and the memory's bytes from them at the end.
 #![tactic(auto)]
 
 ghost use Rattle.std.specs.Prelude.{◌≡◌, ℕ, ◌+◌, ◌*◌, ◌/◌, ◌<◌, ◌≤◌, length, get_or};

@@ -48,7 +48,7 @@ pub fn stop_of(x: u64) -> Stop
 pub fn answer(w: u32, g: u32) -> u64
     ensures { result ≡ w + 4294967296 * g }
 {
-    (w as u64) + 4294967296 * (g as u64)
+    u64::from(w) + 4294967296 * u64::from(g)
 }
 
 fn place_of(x: u64) -> Place
@@ -108,10 +108,10 @@ fn cell(t: &Tables, u: &[u64; 2112], x: u64) -> u64
     requires { CellAsked t.now u.now x }
     ensures { result ≡ cell_in t.now u.now x }
 {
-    if (t.cells as u32) <= word_of(x) {
-        return FAULT + 5;
+    if u32::from(t.cells) <= word_of(x) {
+        return FAULT + Stop::Index as u64;
     }
-    let i = (t.vars as usize) + (word_of(x) as usize);
+    let i = usize::from(t.vars) + (word_of(x) as usize);
     both(t, word_of(u[i]), u[i], x)
 }
 
@@ -142,13 +142,13 @@ fn apply(t: &Tables, u: &[u64; 2112], k: Operator, x: u64, y: u64) -> u64
         Operator::Mul => both(t, words::mul(a, b), x, y),
         Operator::Div => {
             if b == 0 {
-                return FAULT + 6;
+                return FAULT + Stop::Divisor as u64;
             }
             both(t, words::div(a, b), x, y)
         }
         Operator::Rem => {
             if b == 0 {
-                return FAULT + 6;
+                return FAULT + Stop::Divisor as u64;
             }
             both(t, words::rem(a, b), x, y)
         }

@@ -34,10 +34,10 @@ fn store_at(t: &Tables, u: &mut [u64; 2112], tag: u32, x: Place, v: Place) -> Re
     requires { CellGiven t.now u.old tag x v }
     ensures { StoredAt t.now u.old tag x v result u.new }
 {
-    if (t.cells as u32) <= x.value {
+    if u32::from(t.cells) <= x.value {
         return Err(Stop::Index);
     }
-    let n = (t.vars as usize) + (x.value as usize);
+    let n = usize::from(t.vars) + (x.value as usize);
     let b = eval::join(t, tag, u32::from(x.tag));
     let old = eval::tag_at(u, n);
     if eval::join(t, b, old) != old {

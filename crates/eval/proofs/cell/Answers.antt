@@ -8,52 +8,15 @@ use Rattle.rules.specs.Ends.{stop_number}
 use Rattle.eval.specs.Packed.{word_in}
 use Rattle.eval.proofs.cell.Goals as goal
 
-pub returns-then-t-word_of : goal.returns-then-t-word_of
+pub returns-then-from-word_of : goal.returns-then-from-word_of
 unfolding given stop_number
-returns-then-t-word_of c =
+returns-then-from-word_of c =
     let args = c.args in
-    let word_of = c.word_of in
-    let if1 = c.if-t-word_of in
-    rw (le-ltb (word_in args.x) (args.t.now.cells) (omega (arith, word_of.ensures, if1.true)))
-
-pub bounds-u-i : goal.bounds-u-i
-bounds-u-i c =
-    let args = c.args in
-    let pre = c.requires in
-    let word_of = c.word_of in
-    let if1 = c.if-t-word_of in
-    let word-of2 = c.word_of-2 in
-    let l : word_in args.x < args.t.now.cells = omega (arith, word_of.ensures, if1.false) in
-    omega (arith, pre.inside l, word-of2.ensures)
-
-pub bounds-u-i-2 : goal.bounds-u-i-2
-bounds-u-i-2 c =
-    let args = c.args in
-    let pre = c.requires in
-    let word_of = c.word_of in
-    let if1 = c.if-t-word_of in
-    let word-of2 = c.word_of-2 in
-    let l : word_in args.x < args.t.now.cells = omega (arith, word_of.ensures, if1.false) in
-    omega (arith, pre.inside l, word-of2.ensures)
-
-pub both-requires : goal.both-requires
-both-requires c =
-    let args = c.args in
-    let pre = c.requires in
-    let word_of = c.word_of in
-    let if1 = c.if-t-word_of in
-    let word-of2 = c.word_of-2 in
-    let l : word_in args.x < args.t.now.cells = omega (arith, word_of.ensures, if1.false) in
-    rw word-of2.ensures (pre.tags l)
+    rw (le-ltb (word_in args.x) (args.t.now.cells) (omega (arith, c.word_of.ensures, c.from.ensures, c.if-from-word_of.true)))
 
 pub returns : goal.returns
 unfolding given value_of tag_of
 returns c =
     let args = c.args in
-    let word_of = c.word_of in
-    let if1 = c.if-t-word_of in
-    let word-of2 = c.word_of-2 in
-    let word-of3 = c.word_of-3 in
-    let both = c.both in
-    let l : word_in args.x < args.t.now.cells = omega (arith, word_of.ensures, if1.false) in
-    rw (lt-ltb (word_in args.x) (args.t.now.cells) l, both.ensures, word-of3.ensures, word-of2.ensures)
+    let l : word_in args.x < args.t.now.cells = omega (arith, c.word_of.ensures, c.from.ensures, c.if-from-word_of.false) in
+    rw (lt-ltb (word_in args.x) (args.t.now.cells) l, c.both.ensures, c.word_of-3.ensures, c.word_of-2.ensures, c.from-2.ensures)
