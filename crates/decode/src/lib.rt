@@ -7,12 +7,12 @@ ghost use Rattle.rules.specs.Policy.{policy_of};
 ghost use Rattle.rules.specs.Recipe.{Recipe, recipe_of};
 ghost use Rattle.rules.specs.Memory.{places_of, place_bytes, count};
 ghost use Rattle.rules.specs.Accepted.{StmtOk, WellFormed, LawfulPolicy};
-ghost use Rattle.layout.specs.Tables.{node_of, node_at, unary_operator, binary_operator, record_of, ExprAs, Decoded};
+ghost use Rattle.layout.specs.Tables.{node_of, node_at, record_of, ExprAs, Decoded};
 ghost use Rattle.layout.specs.Places.{held_from, held_in, ConstantAs};
 ghost use Rattle.decode.specs.Filled.{one_operand, two_operands, expr_node, stmt_record, Kept, ExprsAs, StmtsAs, RowAs, JoinsAs, ClearancesAs, PlacesAs, ConstantsAs};
 
 use layout::{Form, Node, Operator, Record, Tables};
-use rules::{BinaryOp, Expr, Place, Stmt, UnaryOp};
+use rules::{Expr, Place, Stmt};
 
 // Where the constants begin, above the memory's places.
 const CONSTANTS: usize = 1088;
@@ -27,32 +27,6 @@ fn node_of(form: Form, operator: Operator, first: u16, second: u16) -> Node
         operator,
         first,
         second,
-    }
-}
-
-fn unary(op: UnaryOp) -> Operator
-    ensures { result ≡ unary_operator op }
-{
-    match op {
-        UnaryOp::Negate => Operator::Negate,
-        UnaryOp::Not => Operator::Not,
-        UnaryOp::Absolute => Operator::Absolute,
-    }
-}
-
-fn binary(op: BinaryOp) -> Operator
-    ensures { result ≡ binary_operator op }
-{
-    match op {
-        BinaryOp::Add => Operator::Add,
-        BinaryOp::Sub => Operator::Sub,
-        BinaryOp::Mul => Operator::Mul,
-        BinaryOp::Div => Operator::Div,
-        BinaryOp::Rem => Operator::Rem,
-        BinaryOp::Less => Operator::Less,
-        BinaryOp::LessEq => Operator::LessEq,
-        BinaryOp::Equal => Operator::Equal,
-        BinaryOp::NotEqual => Operator::NotEqual,
     }
 }
 
@@ -89,8 +63,8 @@ fn expr_node(r: &[u8], exprs: &[Node; 1024], e: usize) -> Node
         Expr::Constant(_) => node_of(Form::Leaf, Operator::Cell, (CONSTANTS + e) as u16, 0),
         Expr::Variable(v) => node_of(Form::Leaf, Operator::Cell, v as u16, 0),
         Expr::Cell(i) => one_operand(exprs, Operator::Cell, i),
-        Expr::Unary(op, a) => one_operand(exprs, unary(op), a),
-        Expr::Binary(op, a, b) => two_operands(exprs, binary(op), a, b),
+        Expr::Unary(op, a) => one_operand(exprs, Operator::from(op), a),
+        Expr::Binary(op, a, b) => two_operands(exprs, Operator::from(op), a, b),
         Expr::BadExpr => node_of(Form::Leaf, Operator::Cell, 0, 0),
     }
 }

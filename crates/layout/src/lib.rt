@@ -2,7 +2,9 @@
 #![tactic(auto)]
 
 ghost use Rattle.std.specs.Prelude.{◌≡◌};
-ghost use Rattle.layout.specs.Tables.{no_tables};
+ghost use Rattle.layout.specs.Tables.{no_tables, unary_operator, binary_operator};
+
+use rules::{BinaryOp, UnaryOp};
 
 // A decoded statement: what it is, and the numbers that it names.
 #[derive(Clone, Copy)]
@@ -37,6 +39,36 @@ pub enum Operator {
     LessEq,
     Equal,
     NotEqual,
+}
+
+impl From<UnaryOp> for Operator {
+    fn from(op: UnaryOp) -> Operator
+        ensures { result ≡ unary_operator op }
+    {
+        match op {
+            UnaryOp::Negate => Operator::Negate,
+            UnaryOp::Not => Operator::Not,
+            UnaryOp::Absolute => Operator::Absolute,
+        }
+    }
+}
+
+impl From<BinaryOp> for Operator {
+    fn from(op: BinaryOp) -> Operator
+        ensures { result ≡ binary_operator op }
+    {
+        match op {
+            BinaryOp::Add => Operator::Add,
+            BinaryOp::Sub => Operator::Sub,
+            BinaryOp::Mul => Operator::Mul,
+            BinaryOp::Div => Operator::Div,
+            BinaryOp::Rem => Operator::Rem,
+            BinaryOp::Less => Operator::Less,
+            BinaryOp::LessEq => Operator::LessEq,
+            BinaryOp::Equal => Operator::Equal,
+            BinaryOp::NotEqual => Operator::NotEqual,
+        }
+    }
 }
 
 // A decoded expression. A leaf does nothing: its operator is Cell, and no one asks for it.

@@ -13,10 +13,10 @@ pub returns-in-Unary : goal.returns-in-Unary
 returns-in-Unary c =
     let q = sym c.expr_at.ensures ∙ c.in-Unary.is in
     let there = c.requires.2 _ (expr_fits c.requires.0 c.requires.1 q) in
-    rw q (rw c.unary.ensures at (c.one_operand-in-Unary.ensures (recipe_of c.args.r.now) there))
+    rw q (rw c.from.ensures at (c.one_operand-in-Unary.ensures (recipe_of c.args.r.now) there))
 
 pub returns-in-Binary : goal.returns-in-Binary
 returns-in-Binary c =
     let q = sym c.expr_at.ensures ∙ c.in-Binary.is in
     let low = expr_fits c.requires.0 c.requires.1 q in
-    rw q (rw c.binary.ensures at (c.two_operands.ensures (recipe_of c.args.r.now) (c.requires.2 _ low.0) (c.requires.2 _ low.1)))
+    rw q (rw c.from-in-Binary.ensures at (c.two_operands.ensures (recipe_of c.args.r.now) (c.requires.2 _ low.0) (c.requires.2 _ low.1)))
