@@ -162,6 +162,7 @@ fn apply(t: &Tables, u: &[u64; 2112], k: Operator, x: u64, y: u64) -> u64
 // ---- expressions by their numbers
 
 // A constant or a variable.
+#[tactic(auto, using(crate::proofs::Values::leaf_place, crate::proofs::Values::leaf_value))]
 fn leaf(t: &Tables, u: &[u64; 2112], e: usize) -> u64
     requires { ExprGiven t.now u.now e × ((expr_node t.now e).form ≡ Leaf) }
     ensures { Answered t.now u.now e result }
@@ -170,6 +171,7 @@ fn leaf(t: &Tables, u: &[u64; 2112], e: usize) -> u64
 }
 
 // The operands are leaves, named by their places. What has no second operand names place 0 there.
+#[tactic(auto, using(crate::proofs::Values::left_place, crate::proofs::Values::right_place, crate::proofs::Values::flat_asks))]
 fn flat(t: &Tables, u: &[u64; 2112], e: usize) -> u64
     requires { ExprGiven t.now u.now e × ((expr_node t.now e).form ≡ Flat) }
     ensures { Answered t.now u.now e result }
@@ -193,6 +195,7 @@ fn operand(t: &Tables, u: &[u64; 2112], e: usize) -> u64
 
 // Operands have lower numbers than their user, so the expression's own number falls.
 #[cycle(deep_operand)]
+#[tactic(auto, using(crate::proofs::Values::left_lower, crate::proofs::Values::left_there, crate::proofs::Values::right_lower, crate::proofs::Values::right_there, crate::proofs::Values::one_asks))]
 fn deep(t: &Tables, u: &[u64; 2112], e: usize) -> u64
     requires { ExprGiven t.now u.now e × ((expr_node t.now e).form ≡ Deep) }
     ensures { Answered t.now u.now e result }

@@ -1,24 +1,7 @@
 -- An operator's answer follows from its operands', whose numbers are lower. Assumes nothing.
-use native.Mathlib.Omega.{arith}
 use mathlib.Core.Path.{sym, ◌∙◌}
-use Rattle.eval.proofs.Values.{left_lower, left_there, right_lower, right_there, left_fault, one_asks, one_value, right_fault, two_asks, two_value}
+use Rattle.eval.proofs.Values.{left_there, right_there, left_fault, one_value, right_fault, two_asks, two_value}
 use Rattle.eval.proofs.+deep_operand.Goals as goal
-
-pub deep-operand-x-requires : goal.deep-operand-x-requires
-deep-operand-x-requires t c =
-    let pre = c.requires in
-    let args = c.args in
-    let g = pre.0 in
-    let e = args.e in
-    let h = pre.1 in (
-      omega (arith, left_lower g.ready e g.there h),
-      record {
-        recipe = g.recipe;
-        policy = g.policy;
-        ready = g.ready;
-        there = left_there g.ready e g.there h;
-      },
-    )
 
 pub deep-returns-then-x-ge-FAULT : goal.deep-returns-then-x-ge-FAULT
 deep-returns-then-x-ge-FAULT t c =
@@ -30,19 +13,6 @@ deep-returns-then-x-ge-FAULT t c =
     let h = pre.1 in
     λ r p a there. let f = operand.ensures _ _ a (left_there a e there h) in
     left_fault a e there h f if1.true
-
-pub deep-apply-requires : goal.deep-apply-requires
-deep-apply-requires t c =
-    let pre = c.requires in
-    let args = c.args in
-    let operand = c.operand-x in
-    let if1 = c.if-x-ge-FAULT in
-    let two = sym c.has_two.ensures ∙ c.if-not-has_two.true in
-    let g = pre.0 in
-    let e = args.e in
-    let h = pre.1 in
-    let f = operand.ensures _ _ g.ready (left_there g.ready e g.there h) in
-    one_asks g.ready e g.there h f if1.false two _
 
 pub deep-returns-then-not-has_two : goal.deep-returns-then-not-has_two
 deep-returns-then-not-has_two t c =
@@ -56,18 +26,6 @@ deep-returns-then-not-has_two t c =
     let h = pre.1 in
     λ r p a there. let f = operand.ensures _ _ a (left_there a e there h) in
     one_value a e there h f if1.false two _ apply.ensures
-
-pub deep-operand-y-requires : goal.deep-operand-y-requires
-deep-operand-y-requires t c =
-    let pre = c.requires in
-    let args = c.args in
-    let two = sym c.has_two.ensures ∙ c.if-not-has_two.false in
-    let g = pre.0 in
-    let e = args.e in
-    let h = pre.1 in (
-      omega (arith, right_lower g.ready e g.there h two),
-      record { recipe = g.recipe; policy = g.policy; ready = g.ready; there = right_there g.ready e g.there h two },
-    )
 
 pub deep-returns-then-y-ge-FAULT : goal.deep-returns-then-y-ge-FAULT
 deep-returns-then-y-ge-FAULT t c =
@@ -86,19 +44,13 @@ deep-returns-then-y-ge-FAULT t c =
 
 pub deep-apply-requires-2 : goal.deep-apply-requires-2
 deep-apply-requires-2 t c =
-    let pre = c.requires in
-    let args = c.args in
-    let operand = c.operand-x in
-    let if1 = c.if-x-ge-FAULT in
+    let g = c.requires.0 in
+    let e = c.args.e in
+    let h = c.requires.1 in
     let two = sym c.has_two.ensures ∙ c.if-not-has_two.false in
-    let operand2 = c.operand-y in
-    let if3 = c.if-y-ge-FAULT in
-    let g = pre.0 in
-    let e = args.e in
-    let h = pre.1 in
-    let f = operand.ensures _ _ g.ready (left_there g.ready e g.there h) in
-    let k = operand2.ensures _ _ g.ready (right_there g.ready e g.there h two) in
-    two_asks g.ready e g.there h f if1.false two k if3.false
+    let f = c.operand-x.ensures _ _ g.ready (left_there g.ready e g.there h) in
+    let k = c.operand-y.ensures _ _ g.ready (right_there g.ready e g.there h two) in
+    two_asks g.ready e g.there h f c.if-x-ge-FAULT.false two k c.if-y-ge-FAULT.false
 
 pub deep-returns : goal.deep-returns
 deep-returns t c =
