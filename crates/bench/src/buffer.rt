@@ -14,6 +14,14 @@ impl<const N: usize> Buffer<N> {
         Buffer::lending(0)
     }
 
+    // For tables and memory: what an example lends of them beyond what it put in is zero.
+    pub fn zeros() -> Buffer<N> {
+        Buffer {
+            bytes: [0; N],
+            len: 0,
+        }
+    }
+
     pub fn lending(len: usize) -> Buffer<N> {
         Buffer {
             bytes: [FILLER; N],

@@ -46,7 +46,7 @@ pub fn unions() -> Buffer<300> {
 
 // A recipe's header; the records follow.
 fn recipe_header(e: u16, s: u16, v: u16, m: u16) -> Buffer<4128> {
-    let mut r = Buffer::new();
+    let mut r = Buffer::zeros();
     r.push(b"RJR\x01\x00\x00");
     for count in [e, s, v, m] {
         r.push(&count.to_le_bytes());
@@ -67,21 +67,21 @@ impl Case {
         Case {
             recipe: recipe_header(e, s, v, m),
             policy: two_tags(),
-            memory: Buffer::new(),
+            memory: Buffer::zeros(),
             room: Buffer::new(),
             report: None,
             budget: 2000,
-            after: Buffer::new(),
+            after: Buffer::zeros(),
             written: Buffer::new(),
         }
     }
 
-    // ---- records of the recipe, expressions first
+    // ---- records of the recipe, expressions first, each put at once: put in parts, it copies the case at each part
 
     fn expression(mut self, kind: ExprKind, op: u8, a: u16, b: u32) -> Case {
-        self.recipe.push(&[kind as u8, op]);
-        self.recipe.push(&a.to_le_bytes());
-        self.recipe.push(&b.to_le_bytes());
+        let [a0, a1] = a.to_le_bytes();
+        let [b0, b1, b2, b3] = b.to_le_bytes();
+        self.recipe.push(&[kind as u8, op, a0, a1, b0, b1, b2, b3]);
         self
     }
 
@@ -106,10 +106,9 @@ impl Case {
     }
 
     fn statement(mut self, kind: StmtKind, port: u8, operands: [u16; 3]) -> Case {
-        self.recipe.push(&[kind as u8, port]);
-        for operand in operands {
-            self.recipe.push(&operand.to_le_bytes());
-        }
+        let [[a0, a1], [b0, b1], [c0, c1]] = operands.map(u16::to_le_bytes);
+        self.recipe
+            .push(&[kind as u8, port, a0, a1, b0, b1, c0, c1]);
         self
     }
 

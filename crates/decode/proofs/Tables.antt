@@ -62,7 +62,7 @@ entries_more z A l n f fits all here =
 
 -- ---- the policy
 
-row_kept : {lo : ℕ} {t v : List ℕ} (p : List ℕ) (a n : ℕ) → Kept lo t v → n ≤ 16 → 16 * a + 16 ≤ lo → RowAs p a n t → RowAs p a n v
+pub row_kept : {lo : ℕ} {t v : List ℕ} (p : List ℕ) (a n : ℕ) → Kept lo t v → n ≤ 16 → 16 * a + 16 ≤ lo → RowAs p a n t → RowAs p a n v
 row_kept p a n k few l all b h = k.below (16 * a + b) (omega arith) ∙ all b h
 
 pub joins_more : (p : List ℕ) {t v : List ℕ} (a : ℕ) → byte p 6 ≤ 16 → Kept (16 * a) t v → RowAs p a (byte p 6) v → JoinsAs p a t

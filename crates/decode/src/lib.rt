@@ -120,18 +120,18 @@ fn decode_stmts(r: &[u8], stmts: &mut [Record; 512])
 
 // ---- the policy
 
-fn decode_row(p: &[u8], a: u8, joins: &mut [u8; 256])
+fn decode_row(p: &[u8], a: u8, joins: &mut [u16; 256])
     requires { LawfulPolicy p.now × (a < byte p.now 6) }
     ensures { RowAs p.now a (byte p.now 6) joins.new × Kept (16 * a) joins.old joins.new }
 {
     let from = 16 * usize::from(a);
     let tags = p[6];
     for b in 0..tags {
-        joins[from + usize::from(b)] = policy::join(p, a, b);
+        joins[from + usize::from(b)] = u16::from(policy::join(p, a, b));
     }
 }
 
-fn decode_joins(p: &[u8], joins: &mut [u8; 256])
+fn decode_joins(p: &[u8], joins: &mut [u16; 256])
     requires { LawfulPolicy p.now }
     ensures { JoinsAs p.now (byte p.now 6) joins.new }
 {
@@ -141,13 +141,13 @@ fn decode_joins(p: &[u8], joins: &mut [u8; 256])
     }
 }
 
-fn decode_clearances(p: &[u8], clearances: &mut [u8; 16])
+fn decode_clearances(p: &[u8], clearances: &mut [u16; 16])
     requires { LawfulPolicy p.now }
     ensures { ClearancesAs p.now (byte p.now 7) clearances.new }
 {
     let ports = p[7];
     for port in 0..ports {
-        clearances[usize::from(port)] = policy::clearance(p, port);
+        clearances[usize::from(port)] = u16::from(policy::clearance(p, port));
     }
 }
 

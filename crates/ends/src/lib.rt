@@ -6,6 +6,7 @@ ghost use Rattle.rules.specs.Ends.{stop_number, refusal_number, refusal_place, e
 
 use rules::{End, Refusal, Stop};
 
+#[tactic(auto, unfolding(rules::specs::Ends::stop_number))]
 fn stop_number(h: Stop) -> u32
     ensures { result ≡ stop_number h }
 {

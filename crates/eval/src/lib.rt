@@ -61,6 +61,7 @@ fn place_of(x: u64) -> Place
     }
 }
 
+#[tactic(auto, unfolding(rules::specs::Steps::given))]
 fn opened(x: u64) -> Result<Place, Stop>
     requires { x < 9223372036854775808 → tag_in x < 256 }
     ensures { result ≡ opened_of x }

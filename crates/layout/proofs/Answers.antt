@@ -46,6 +46,16 @@ stop_back Divisor = refl
 stop_back Room = refl
 stop_back Frames = refl
 
+pub stop_below : (h : Stop) → stop_number h < 9
+unfolding stop_number
+stop_below AssignTag = omega arith
+stop_below StoreTag = omega arith
+stop_below EmitTag = omega arith
+stop_below Index = omega arith
+stop_below Divisor = omega arith
+stop_below Room = omega arith
+stop_below Frames = omega arith
+
 -- ---- answers
 
 -- a place is read back from its answer
@@ -55,7 +65,7 @@ worth_back q small =
     let g : (q.value + 4294967296 * q.tag) / 4294967296 ≡ q.tag = omega arith in
     rw (v, g)
 
--- the answer x stands for a value, or for a fault
+-- the answer x stands for a value, or for a fault, whose number is its word
 pub record Worthy (P : Policy) (x : ℕ) (o : Valued) : Type 0 where
   pub is : o ≡ Ok (worth_of x)
   pub good : x / 4294967296 < P.tags
@@ -63,6 +73,7 @@ pub record Worthy (P : Policy) (x : ℕ) (o : Valued) : Type 0 where
 pub record Faulty (x : ℕ) (o : Valued) : Type 0 where
   pub stop : Stop
   pub is : o ≡ Err stop
+  pub word : x % 4294967296 ≡ stop_number stop
   pub back : stop_from (x - 9223372036854775808) ≡ stop
 
 pub is_worth : {P : Policy} → P.tags ≤ 16 → {o : Valued} → Proper P o → {x : ℕ} → x ≡ answer_of o → x < 9223372036854775808 → Worthy P x o
@@ -74,4 +85,4 @@ pub is_fault : {P : Policy} → P.tags ≤ 16 → {o : Valued} → Proper P o �
 is_fault few (value k) e l = absurd (omega (arith, k.good, k.word))
 is_fault few (fault {h}) {x} e l =
     let d : x - 9223372036854775808 ≡ stop_number h = omega arith in
-    record { stop = h; is = refl; back = rw d (stop_back h) }
+    record { stop = h; is = refl; word = omega (arith, stop_below h); back = rw d (stop_back h) }

@@ -81,12 +81,12 @@ pub struct Node {
 }
 
 // The decoded tables, filled once from an accepted recipe and policy. The join of tags a and b stands at 16 a + b.
-#[derive(Drop)]
+#[derive(Clone, Copy)]
 pub struct Tables {
     pub exprs: [Node; 1024],
     pub stmts: [Record; 512],
-    pub joins: [u8; 256],
-    pub clearances: [u8; 16],
+    pub joins: [u16; 256],
+    pub clearances: [u16; 16],
     pub vars: u16,
     pub cells: u16,
 }

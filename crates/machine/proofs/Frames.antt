@@ -102,7 +102,7 @@ module _ {r p : List ℕ} {t : Tables} {u : List ℕ} (a : Ready r p t u) where
   frame_parts (Join g) ok {w} e = parts w 8 0 g e (omega arith) (omega (arith, ok, few_tags))
   frame_parts (Loop s g) ok {w} e = parts w 9 s g e (omega (arith, ok.0, few_stmts)) (omega (arith, ok.1, few_tags))
 
-  kind_low : (s : ℕ) → s < (recipe_of r).stmts → (stmt_record t s).kind < 7
+  pub kind_low : (s : ℕ) → s < (recipe_of r).stmts → (stmt_record t s).kind < 7
   kind_low s l = rw (a.decoded.stmts_as s l).kind (kind_below ((recipe_of r).stmt_at s))
 
   -- what is done next names a statement's number
